@@ -7,7 +7,7 @@ use native.Mathlib.Omega.{arith}
 use lib.Dec.{eqb, ltb}
 use lib.ListN.{length, getD, take, drop}
 use borrow.Author.Tests.{eq-eqb, ne-eqb, lt-ltb, le-ltb}
-use Rattle.std.proofs.shelf.Lists.{length-take-le, take-append-drop, drop-more, drop-drop, getD-take}
+use Rattle.std.proofs.shelf.Lists.{length-take-le, length-drop, take-append-drop, drop-more, drop-drop, getD-take}
 use Rattle.std.proofs.shelf.Tests.{cond-true, cond-false, or-right, or-from}
 use Rattle.std.specs.declared.result.Result.the-variants.{Ok, Err}
 use Rattle.table.specs.Text.{fields, lines, firstLine, LinePart}
@@ -49,16 +49,20 @@ module _ (count n : ℕ) (text : List ℕ) (k : ℕ) (lt : k < length text) (b :
       let l = len in
       let at : k + 1 ≡ 0 + length (take k text) + 1 = omega arith in
       record {
+        within = omega arith;
         part = sym (take-append-drop k text)
             ∙ ap (λ (r : List ℕ). take k text ++ r) (drop-more text k 0 lt ∙ ap (λ (b : ℕ). b ∷ drop (k + 1) text) f ∙ ap (λ (j : ℕ). 10 ∷ drop j text) at);
         unbroken = λ j h e. b j (omega arith) (sym (getD-take k text j 0 (omega arith)) ∙ e);
       }
 
 -- a part of what stands from an offset on is a part of the text
-pub later-part : (text : List ℕ) (at : ℕ) (line : List ℕ) → LinePart (drop at text) 0 line → LinePart text at line
-later-part text at line p =
+pub later-part : (text : List ℕ) (at : ℕ) (line : List ℕ) → at ≤ length text → LinePart (drop at text) 0 line → LinePart text at line
+later-part text at line h p =
     let j : at + (0 + length line + 1) ≡ at + length line + 1 = omega arith in
+    let w = p .within in
+    let l = length-drop at text in
     record {
+      within = omega arith;
       part = sym (take-append-drop at text) ∙ ap (λ (r : List ℕ). take at text ++ r) (p .part)
           ∙ ap (λ (r : List ℕ). take at text ++ (line ++ (10 ∷ r))) (drop-drop (0 + length line + 1) at text ∙ ap (λ (i : ℕ). drop i text) j);
       unbroken = p .unbroken;

@@ -28,5 +28,6 @@ firstLine text = getD (lines text) 0 []
 
 -- the part of a text from the offset `at` up to the next line feed
 pub record LinePart (text : List ℕ) (at : ℕ) (line : List ℕ) : Type 0 where
+  pub within : at + length line < length text
   pub part : text ≡ take at text ++ (line ++ (10 ∷ drop (at + length line + 1) text))
   pub unbroken : (k : ℕ) → k < length line → getD line k 0 ≡ 10 → ⊥

@@ -223,13 +223,13 @@ impl<'a> Rows<'a> {
         ensures order { λ r. ⌜ now (self .exit) .order ≡ now (self .entry) .order ⌝ }
         ensures stands { λ r. ⌜ Stands r (length (firstLine (drop (now (self .entry) .at) (now (now (self .entry) .text))))) (now (self .entry) .at) (now (self .entry) .line) (now (self .exit) .at) (now (self .exit) .line) ⌝ }
     {
-        let rest = &self.text[self.at..];
-        if rest.len() == 0 {
-            return Ok(None);
-        }
+        let standing = self.line()?;
+        let line = match standing {
+            Some(line) => line,
+            None => return Ok(None),
+        };
         let columns = self.table.names().len();
         let number = self.line + 1;
-        let line = line_at(rest, columns, number)?;
         let found = match values(line) {
             Ok(found) => found,
             Err(column) => return Err(Fault::new(Refusal::FieldValue, number, column)),

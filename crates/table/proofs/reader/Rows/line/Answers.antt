@@ -30,5 +30,5 @@ returns c =
     let line = c .in-Continue-line .line .now in
     let part = c .in-Continue-line .ensures tt .part .3 in (
       lent text (self .at) (length (columnNames (self .table))) (length (c .names .result .now)) (self .line + 1) (c .names .ensures .count) ∙ c .in-Continue-line .ensures tt .value,
-      later-part text (self .at) line (subst (λ t. LinePart t 0 line) (take-rest text (self .at)) part),
+      later-part text (self .at) line (self .within) (subst (λ t. LinePart t 0 line) (take-rest text (self .at)) part),
     )
