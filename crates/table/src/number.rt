@@ -1,10 +1,12 @@
 ghost use mathlib.Core.Path.{_≡_};
 ghost use Prim.Native.Nat.{_+_, _-_, _*_, _<_, _≤_};
 ghost use Rattle.std.specs.Slices.{found};
-ghost use Rattle.table.specs.Number.{magnitudeOf, numberOf, minus, plain};
+ghost use Rattle.table.specs.Number.{magnitudeOf, numberOf, minus, plain, Says};
 
+// The largest magnitude.
 const MOST: u64 = 2147483647;
 
+// 1 to 10 digits with no leading zero but 0 itself, at most MOST.
 fn magnitude(digits: &[u8]) -> Option<u32>
     ensures value { λ r. ⌜ r ≡ magnitudeOf (now (digits .entry)) ⌝ }
     ensures small { λ r. ⌜ found r (λ n. n ≤ 2147483647) ⌝ }
@@ -29,6 +31,7 @@ fn magnitude(digits: &[u8]) -> Option<u32>
     }
 }
 
+// The opposite; there is no -0.
 fn negated(m: Option<u32>) -> Option<i64>
     requires { ⌜ found m (λ n. n ≤ 2147483647) ⌝ }
     ensures { λ r. ⌜ r ≡ minus m ⌝ }
@@ -39,6 +42,7 @@ fn negated(m: Option<u32>) -> Option<i64>
     }
 }
 
+// The same number, with a sign.
 fn kept(m: Option<u32>) -> Option<i64>
     requires { ⌜ found m (λ n. n ≤ 2147483647) ⌝ }
     ensures { λ r. ⌜ r ≡ plain m ⌝ }
@@ -49,8 +53,10 @@ fn kept(m: Option<u32>) -> Option<i64>
     }
 }
 
+// The whole number that a field says, none where it says none.
 pub fn number(field: &[u8]) -> Option<i64>
-    ensures { λ r. ⌜ r ≡ numberOf (now (field .entry)) ⌝ }
+    ensures value { λ r. ⌜ r ≡ numberOf (now (field .entry)) ⌝ }
+    ensures says { λ r. ⌜ Says (now (field .entry)) r ⌝ }
 {
     match field {
         [b'-', digits @ ..] => negated(magnitude(digits)),

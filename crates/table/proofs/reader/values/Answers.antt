@@ -23,7 +23,7 @@ returns-in-None c =
     let i = c .loop-i .i in
     let lt : i < length fs = omega (arith, c .count-n .ensures) in
     let h = c .split .ensures .field ∙ here (c .loop-i .rest .now) fs i (c .loop-i .inv .0 (c .loop-i-test .taken)) in
-    let e = ap numberOf (sym h) ∙ sym (c .number .ensures) ∙ c .in-None .is in
+    let e = ap numberOf (sym h) ∙ sym (c .number .ensures .value) ∙ c .in-None .is in
     sym (c .loop-i .inv .1) ∙ not-good goodValue fs i lt (ap isSome e)
 
 pub loop-i-again : need.loop-i-again
@@ -35,7 +35,7 @@ loop-i-again c =
     let room : i < length (c .loop-i .found) = omega (arith, inv .2, c .pre) in
     let at = inv .0 (c .loop-i-test .taken) in
     let h = c .split .ensures .field ∙ here (c .loop-i .rest .now) fs i at in
-    let e = ap numberOf (sym h) ∙ sym (c .number .ensures) ∙ c .in-Some .is in
+    let e = ap numberOf (sym h) ∙ sym (c .number .ensures .value) ∙ c .in-Some .is in
     let z : toZ w64 (ofZ w64 (c .in-Some .v)) ≡ c .in-Some .v = search needs in (
       λ more. onward (c .loop-i .rest .now) (c .split .result .1 .now) fs i at (omega (arith, c .count-n .ensures)) (c .split .ensures .rest),
       sym (is-good goodValue fs i lt (ap isSome e)) ∙ inv .1,
