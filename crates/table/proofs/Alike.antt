@@ -42,13 +42,13 @@ accepted-line row n (Ok l) more e = let k = accepted-values row n (fields l) (fi
 
 -- at the last part an accepted text ends
 module _ (row : List (List ℕ) → List ℤ) (count n : ℕ) where
-  last-part : (l : List ℕ) → rowsFrom row count n (l ∷ []) .stop ≡ None → rowsFrom row count n (l ∷ []) ≡ record { rows = []; stop = None }
+  pub last-part : (l : List ℕ) → rowsFrom row count n (l ∷ []) .stop ≡ None → rowsFrom row count n (l ∷ []) ≡ record { rows = []; stop = None }
   last-part l e =
       let b = eqb (length l + 0) 0 in
       let to : Result (Option (List ℤ)) Fault → Reading = λ a. after a (rowsFrom row count (n + 1) []) in
       ⊎-elim (λ t. ap to (cond-true b _ _ t)) (λ f. absurd (some-none (sym (ap (λ (a : Result (Option (List ℤ)) Fault). to a .stop) (cond-false b _ _ f)) ∙ e))) (cases-bool b)
 
-  inner-line : (l m : List ℕ) (ls : List (List ℕ)) → rowsFrom row count n (l ∷ m ∷ ls) .stop ≡ None
+  pub inner-line : (l m : List ℕ) (ls : List (List ℕ)) → rowsFrom row count n (l ∷ m ∷ ls) .stop ≡ None
       → (length (fields l) ≡ count) × (rowsFrom row count (n + 1) (m ∷ ls) .stop ≡ None) × (rowsFrom row count n (l ∷ m ∷ ls) ≡ after (Ok (Some (row (fields l)))) (rowsFrom row count (n + 1) (m ∷ ls)))
   inner-line l m ls e =
       let more = rowsFrom row count (n + 1) (m ∷ ls) in
@@ -99,7 +99,7 @@ opened-heads : (ns : List (List ℕ)) (refused : Bool) (text : List ℕ) (heads 
 opened-heads ns true text heads e = absurd (err-ok e)
 opened-heads ns false text heads e = e
 
-accepted : (table : Table) (text : List ℕ) → reading table text .stop ≡ None
+pub accepted : (table : Table) (text : List ℕ) → reading table text .stop ≡ None
     → (heads : List (List ℕ)) × Headed (columnNames table) (lines text) heads × (reading table text ≡ rowsFrom (rowUnder (columnNames table) heads) (length (columnNames table)) 2 (drop 1 (lines text)))
 accepted table text e =
     let ns = columnNames table in

@@ -11,7 +11,7 @@ use Rattle.std.proofs.shelf.Lists.{at-drop-more, at-drop-all}
 use Rattle.std.proofs.shelf.Tests.{cond-both, cond-true, cond-false}
 use Rattle.table.specs.Text.{onto, parts}
 
-onto-length : (x : ℕ) (ps : List (List ℕ)) → 0 < length ps → length (onto x ps) ≡ length ps
+pub onto-length : (x : ℕ) (ps : List (List ℕ)) → 0 < length ps → length (onto x ps) ≡ length ps
 onto-length x [] h = absurd (let k : ⊥ = omega arith in k)
 onto-length x (p ∷ ps) h = refl
 

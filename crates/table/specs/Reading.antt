@@ -1,5 +1,5 @@
 -- What a table of text says: its rows up to the first fault in reading order, and that fault.
-use Prim.Native.Nat.{ℕ, zero, suc, _+_, _-_}
+use Prim.Native.Nat.{ℕ, zero, suc, _+_, _-_, _<_, _≤_}
 use mathlib.Core.List.{List, [], _∷_, _++_, map}
 use mathlib.Core.Path.{_≡_}
 use mathlib.Core.Bool.{Bool, true, cond, _&&_, _||_, not}
@@ -137,6 +137,12 @@ rowAmong (suc k) (r ∷ rs) f = rowAmong k rs f
 
 abbrev pub rowOf : ℕ → Reading → Result (Option (List ℤ)) Fault
 rowOf k r = rowAmong k (r .rows) (r .stop)
+
+-- of a text with so many line feeds there is a row numbered k just where a line feed is left for it after the names line's
+abbrev pub Complete : ℕ → ℕ → Result (Option (List ℤ)) Fault → Type 0
+Complete fed k (Ok (Some row)) = k + 1 < fed
+Complete fed k (Ok None) = fed ≤ k + 1
+Complete fed k (Err f) = ⊥
 
 -- where the row reader stands after an answer: past the line whose row it gave, of len bytes; else where it was
 abbrev pub Stands : Result (Option (List ℤ)) Fault → ℕ → ℕ → ℕ → ℕ → ℕ → Type 0

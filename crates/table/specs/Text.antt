@@ -1,5 +1,5 @@
 -- A text is cut into lines at each byte 10, a line into fields at each byte 32.
-use Prim.Native.Nat.{ℕ, _+_, _<_}
+use Prim.Native.Nat.{ℕ, suc, _+_, _<_}
 use mathlib.Core.Path.{_≡_}
 use mathlib.Core.List.{List, [], _∷_, _++_}
 use mathlib.Core.Bool.{cond}
@@ -22,6 +22,11 @@ fields line = parts 32 line
 -- the lines, and last what stands after the last line feed: nothing, if every line has one
 abbrev pub lines : List ℕ → List (List ℕ)
 lines text = parts 10 text
+
+-- how many line feeds a text has
+abbrev pub feeds : List ℕ → ℕ
+feeds [] = 0
+feeds (x ∷ xs) = cond (eqb x 10) (suc (feeds xs)) (feeds xs)
 
 abbrev pub firstLine : List ℕ → List ℕ
 firstLine text = getD (lines text) 0 []

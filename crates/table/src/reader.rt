@@ -9,9 +9,9 @@ ghost use Rattle.std.specs.Results.{Cases as ByOk};
 ghost use Rattle.std.specs.declared.option.Option.the-variants.{Some, None};
 ghost use Rattle.std.specs.declared.result.Result.the-variants.{Ok, Err};
 ghost use Rattle.refusal.specs.Numbers.{fault};
-ghost use Rattle.table.specs.Text.{fields, lines, firstLine, LinePart};
+ghost use Rattle.table.specs.Text.{fields, lines, feeds, firstLine, LinePart};
 ghost use Rattle.table.specs.Names.{columnNames, held, packed as packedOrder, placeOf};
-ghost use Rattle.table.specs.Reading.{openedText, lineAt, firstNot, goodName, goodValue, headsOf, Named, valueOf, filled, after, reading, nextIn, left, rowOf, Stands};
+ghost use Rattle.table.specs.Reading.{openedText, lineAt, firstNot, goodName, goodValue, headsOf, Named, valueOf, filled, after, reading, nextIn, left, rowOf, Complete, Stands};
 ghost use Rattle.table.specs.Rearranged.{Rearranged};
 ghost use Rattle.table.specs.Examples.{Examples};
 use crate::number::number;
@@ -257,6 +257,7 @@ fn row_after(rows: &mut Rows, k: usize) -> Result<Option<[i64; 13]>, Fault>
 // The row numbered k of a text, from 0, none past the last; the fault, if one stands before it.
 pub fn row(table: Table, text: &[u8], k: usize) -> Result<Option<[i64; 13]>, Fault>
     ensures value { λ r. ⌜ r ≡ rowOf k (reading table (now (text .entry))) ⌝ }
+    ensures complete { λ r. ⌜ (reading table (now (text .entry)) .stop ≡ None → Complete (feeds (now (text .entry))) k r) ⌝ }
     ensures same { λ r. ⌜ ((places other : List ℕ) → Rearranged table places (now (text .entry)) other → r ≡ rowOf k (reading table other)) ⌝ }
 {
     let opened = Opened::new(table, text)?;
