@@ -61,7 +61,12 @@ fn push_values(heap: Global, out: &mut Vec<u8>, values: &[i64]) -> Result<(), Al
 }
 
 // The rows that are still to be read, a line each; the fault, if one ends them.
-fn push_rows(heap: Global, out: &mut Vec<u8>, rows: &mut Rows, columns: usize) -> Result<Option<Fault>, AllocError>
+fn push_rows(
+    heap: Global,
+    out: &mut Vec<u8>,
+    rows: &mut Rows,
+    columns: usize,
+) -> Result<Option<Fault>, AllocError>
     requires { ⌜ columns ≡ length (columnNames (now rows .table)) ⌝ }
     ensures { λ r. ⌜ made r (λ o. (o ≡ left (now (rows .entry) .table) (now (rows .entry) .order .packed) (now (now (rows .entry) .text)) (now (rows .entry) .at) (now (rows .entry) .line) .stop) × (vec-items (now (out .exit)) ≡ vec-items (now (out .entry)) ++ joined (rowLine (now (rows .entry) .table)) (left (now (rows .entry) .table) (now (rows .entry) .order .packed) (now (now (rows .entry) .text)) (now (rows .entry) .at) (now (rows .entry) .line) .rows))) ⌝ }
 {
@@ -101,7 +106,12 @@ fn push_heading(out: &mut Vec<u8>, table: Table, line: &[u8]) -> Result<(), Allo
 }
 
 // A table as it was read; the first fault, if it has one.
-fn push_table(heap: Global, out: &mut Vec<u8>, table: Table, text: &[u8]) -> Result<Option<Fault>, AllocError>
+fn push_table(
+    heap: Global,
+    out: &mut Vec<u8>,
+    table: Table,
+    text: &[u8],
+) -> Result<Option<Fault>, AllocError>
     ensures { λ r. ⌜ made r (λ o. (o ≡ reading table (now (text .entry)) .stop) × (o ≡ None → vec-items (now (out .exit)) ≡ vec-items (now (out .entry)) ++ tableText table (now (text .entry)) (reading table (now (text .entry)) .rows))) ⌝ }
 {
     let opened = match Opened::new(table, text) {
@@ -136,7 +146,10 @@ fn fault_output(heap: Global, file: u8, fault: Fault) -> Result<Output, AllocErr
     let layer = fault.layer;
     let line = fault.line;
     let column = fault.column;
-    let text = format!(heap, "file number layer line column\n{file} {number} {layer} {line} {column}\n")?;
+    let text = format!(
+        heap,
+        "file number layer line column\n{file} {number} {layer} {line} {column}\n"
+    )?;
     Ok(Output {
         text: text.into_bytes(),
         faulty: true,
@@ -153,7 +166,13 @@ fn push_terrain(heap: Global, out: &mut Vec<u8>, bytes: &[u8]) -> Result<(), All
 }
 
 // The first fault of the tables, or what was read of the four files.
-pub fn report(heap: Global, nodes: &[u8], areas: &[u8], terrain: &[u8], legs: &[u8]) -> Result<Output, AllocError>
+pub fn report(
+    heap: Global,
+    nodes: &[u8],
+    areas: &[u8],
+    terrain: &[u8],
+    legs: &[u8],
+) -> Result<Output, AllocError>
     ensures { λ r. ⌜ made r (λ o. (vec-items (o .text) ≡ outputOf (now (nodes .entry)) (now (areas .entry)) (now (terrain .entry)) (now (legs .entry)) .text) × (o .faulty ≡ outputOf (now (nodes .entry)) (now (areas .entry)) (now (terrain .entry)) (now (legs .entry)) .faulty)) ⌝ }
 {
     let mut text = Vec::new(heap);

@@ -89,8 +89,8 @@ writes-magnitude n h =
     let some = decimal-some n small in
     let short = length-decimal-le 10 n (omega arith) (omega arith) small in
     let lead : ((getD (decimal n) 0 0 ≡ 48) × (length (decimal n) ≤ 1)) ⊎ (getD (decimal n) 0 0 ≡ 48 → ⊥) =
-        ⊎-elim (λ z. let w = ap decimal z ∙ decimal-digit 0 (omega arith) in inl (ap (λ (l : List ℕ). getD l 0 0) w, let l = ap length w in let k : length (decimal n) ≤ 1 = omega arith in k))
-        (λ nz. let f = first-decimal n (omega arith) small in inr (λ e. let k : ⊥ = omega arith in k)) (cases-eq n 0) in
+    ⊎-elim (λ z. let w = ap decimal z ∙ decimal-digit 0 (omega arith) in inl (ap (λ (l : List ℕ). getD l 0 0) w, let l = ap length w in let k : length (decimal n) ≤ 1 = omega arith in k))
+    (λ nz. let f = first-decimal n (omega arith) small in inr (λ e. let k : ⊥ = omega arith in k)) (cases-eq n 0) in
     gate (decimal n) (λ e. let k : ⊥ = omega arith in k) short lead
     ∙ ap capped (digits-read 0 (decimal n) (digits-decimal own n small) ∙ ap (λ (m : ℕ). Some m) (value-decimal own n small))
     ∙ cond-true (leb n 2147483647) _ _ (le-leb n 2147483647 h)

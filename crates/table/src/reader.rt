@@ -13,7 +13,6 @@ ghost use Rattle.table.specs.Text.{fields, lines, feeds, firstLine, LinePart};
 ghost use Rattle.table.specs.Names.{columnNames, held, packed as packedOrder, placeOf};
 ghost use Rattle.table.specs.Reading.{openedText, lineAt, firstNot, goodName, goodValue, headsOf, Named, valueOf, filled, after, reading, nextIn, left, rowOf, Complete, Stands};
 ghost use Rattle.table.specs.Rearranged.{Rearranged};
-ghost use Rattle.table.specs.Examples.{Examples};
 use crate::number::number;
 use crate::parts::column_of;
 use crate::parts::count;
@@ -264,11 +263,4 @@ pub fn row(table: Table, text: &[u8], k: usize) -> Result<Option<[i64; 13]>, Fau
     let names = opened.names()?;
     let mut rows = opened.rows(names);
     row_after(&mut rows, k)
-}
-
-// Small texts, and what the definitions say of them.
-pub fn examples_hold() -> u8
-    ensures { λ _. ⌜ Examples ⌝ }
-{
-    0
 }

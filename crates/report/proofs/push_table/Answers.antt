@@ -28,7 +28,7 @@ returns c =
     let out = vec-items (c .args .out .now) in
     let said = c .in-Continue-fault .ensures tt in
     let written = said .1 ∙ ap (λ (t : Table). vec-items (c .push-heading .last .out) ++ joined (rowLine t) (rest .rows)) same
-        ∙ ap (λ (t : List ℕ). t ++ joined (rowLine table) (rest .rows)) (c .in-Continue-push-heading .ensures tt ∙ ap (λ (l : List ℕ). out ++ heading table l) line)
-        ∙ append-assoc out (heading table (firstLine text)) (joined (rowLine table) (rest .rows))
-        ∙ sym (ap (λ (r : Reading). out ++ (heading table (firstLine text) ++ joined (rowLine table) (r .rows))) whole) in
+    ∙ ap (λ (t : List ℕ). t ++ joined (rowLine table) (rest .rows)) (c .in-Continue-push-heading .ensures tt ∙ ap (λ (l : List ℕ). out ++ heading table l) line)
+    ∙ append-assoc out (heading table (firstLine text)) (joined (rowLine table) (rest .rows))
+    ∙ sym (ap (λ (r : Reading). out ++ (heading table (firstLine text) ++ joined (rowLine table) (r .rows))) whole) in
     (said .0 ∙ sym (ap (λ (r : Reading). r .stop) whole), λ _. written)

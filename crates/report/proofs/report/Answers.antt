@@ -37,5 +37,5 @@ returns c =
     let is = no-fault n a t l (sym (first .0) ∙ c .in-rest .is) (sym (second .0) ∙ c .in-rest-second .is) (sym (fourth .0) ∙ c .in-rest-fourth .is) in
     let nodes = tableText Nodes n (reading Nodes n .rows) in
     let text = four-parts nodes (tableText Areas a (reading Areas a .rows)) (terrainText t) (tableText Legs l (reading Legs l .rows)) _ _ _ _
-        (first .1 (c .in-rest .is) ∙ ap (λ (s : List ℕ). s ++ nodes) (c .new-text .ensures .items)) (second .1 (c .in-rest-second .is)) (c .in-Continue-push-terrain .ensures tt) (fourth .1 (c .in-rest-fourth .is)) in
+    (first .1 (c .in-rest .is) ∙ ap (λ (s : List ℕ). s ++ nodes) (c .new-text .ensures .items)) (second .1 (c .in-rest-second .is)) (c .in-Continue-push-terrain .ensures tt) (fourth .1 (c .in-rest-fourth .is)) in
     (text ∙ sym (ap (λ (o : Output). o .text) is), sym (ap (λ (o : Output). o .faulty) is))
