@@ -15,7 +15,7 @@ use Rattle.std.specs.declared.result.Result.the-variants.{Ok, Err}
 use Rattle.table.specs.declared.table.Table.{Table}
 use Rattle.refusal.specs.declared.Fault.{Fault}
 use Rattle.refusal.specs.Numbers.{fault}
-use Rattle.table.specs.Text.{fields, lines}
+use Rattle.table.specs.Text.{fields, lines, LinePart}
 use Rattle.table.specs.Number.{numberOf}
 use Rattle.table.specs.Names.{columnNames, placeIn, packed, placeOf}
 
@@ -115,6 +115,14 @@ body ns text (Ok heads) = rowsFrom (rowUnder ns heads) (length ns) 2 (drop 1 (li
 
 abbrev pub reading : Table → List ℕ → Reading
 reading table text = body (columnNames table) text (andThen (openedText text) (headsOf (columnNames table)))
+
+-- the line that stands next, past `line` lines whose bytes end at `at`
+abbrev pub standing : Table → List ℕ → ℕ → ℕ → Result (List ℕ) Fault
+standing table text at line = lineAt (length (columnNames table)) (line + 1) (lines (drop at text))
+
+-- this is the line, and the part of the text from there up to the next line feed
+abbrev pub HandsOut : Table → List ℕ → ℕ → ℕ → List ℕ → Type 0
+HandsOut table text at line l = (standing table text at line ≡ Ok l) × LinePart text at l
 
 -- what a row reader answers whose columns stand in this packed order, past `line` lines, whose bytes end at `at`
 abbrev pub nextIn : Table → ℕ → List ℕ → ℕ → ℕ → Result (Option (List ℤ)) Fault

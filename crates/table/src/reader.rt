@@ -11,7 +11,7 @@ ghost use Rattle.std.specs.declared.result.Result.the-variants.{Ok, Err};
 ghost use Rattle.refusal.specs.Numbers.{fault};
 ghost use Rattle.table.specs.Text.{fields, lines, feeds, firstLine, LinePart};
 ghost use Rattle.table.specs.Names.{columnNames, held, packed as packedOrder, placeOf};
-ghost use Rattle.table.specs.Reading.{openedText, lineAt, firstNot, goodName, goodValue, headsOf, Named, valueOf, filled, after, reading, nextIn, left, rowOf, Complete, Stands};
+ghost use Rattle.table.specs.Reading.{openedText, lineAt, standing, HandsOut, firstNot, goodName, goodValue, headsOf, Named, valueOf, filled, after, reading, nextIn, left, rowOf, Complete, Stands};
 ghost use Rattle.table.specs.Rearranged.{Rearranged};
 use crate::number::number;
 use crate::parts::column_of;
@@ -158,7 +158,7 @@ impl<'a> Opened<'a> {
 
     // The names line, a part of the text; refuses 2 and 3.
     pub fn line(&self) -> Result<&'a [u8], Fault>
-        ensures { λ r. ⌜ ByOk r (λ l. (lineAt (length (columnNames (now (self .entry) .table))) 1 (lines (now (now (self .entry) .text))) ≡ Ok (now l)) × LinePart (now (now (self .entry) .text)) 0 (now l)) (λ f. lineAt (length (columnNames (now (self .entry) .table))) 1 (lines (now (now (self .entry) .text))) ≡ Err f) ⌝ }
+        ensures { λ r. ⌜ ByOk r (λ l. HandsOut (now (self .entry) .table) (now (now (self .entry) .text)) 0 0 (now l)) (λ f. standing (now (self .entry) .table) (now (now (self .entry) .text)) 0 0 ≡ Err f) ⌝ }
     {
         line_at(self.text, self.table.names().len(), 1)
     }
@@ -203,7 +203,7 @@ impl<'a> Opened<'a> {
 impl<'a> Rows<'a> {
     // The line that stands next, a part of the text, none after the last; refuses 2 and 3.
     pub fn line(&self) -> Result<Option<&'a [u8]>, Fault>
-        ensures { λ r. ⌜ ByOk r (λ o. BySome o (drop (now (self .entry) .at) (now (now (self .entry) .text)) ≡ []) (λ l. (lineAt (length (columnNames (now (self .entry) .table))) (now (self .entry) .line + 1) (lines (drop (now (self .entry) .at) (now (now (self .entry) .text)))) ≡ Ok (now l)) × LinePart (now (now (self .entry) .text)) (now (self .entry) .at) (now l))) (λ f. (drop (now (self .entry) .at) (now (now (self .entry) .text)) ≡ [] → ⊥) × (lineAt (length (columnNames (now (self .entry) .table))) (now (self .entry) .line + 1) (lines (drop (now (self .entry) .at) (now (now (self .entry) .text)))) ≡ Err f)) ⌝ }
+        ensures { λ r. ⌜ ByOk r (λ o. BySome o (drop (now (self .entry) .at) (now (now (self .entry) .text)) ≡ []) (λ l. HandsOut (now (self .entry) .table) (now (now (self .entry) .text)) (now (self .entry) .at) (now (self .entry) .line) (now l))) (λ f. (drop (now (self .entry) .at) (now (now (self .entry) .text)) ≡ [] → ⊥) × (standing (now (self .entry) .table) (now (now (self .entry) .text)) (now (self .entry) .at) (now (self .entry) .line) ≡ Err f)) ⌝ }
     {
         let rest = &self.text[self.at..];
         if rest.len() == 0 {
