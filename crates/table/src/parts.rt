@@ -5,7 +5,7 @@ ghost use lib.ListN.{length, getD, drop};
 ghost use Rattle.table.specs.Text.{fields};
 ghost use Rattle.table.specs.Names.{held, placeIn};
 
-// where the byte first stands, or the length
+// Where the byte first stands, or the length.
 pub fn find(s: &[u8], byte: u8) -> usize
     ensures within { λ r. ⌜ r ≤ length (now (s .entry)) ⌝ }
     ensures before { λ r. ⌜ ((k : ℕ) → k < r → getD (now (s .entry)) k 0 ≡ byte → ⊥) ⌝ }
@@ -19,7 +19,7 @@ pub fn find(s: &[u8], byte: u8) -> usize
     s.len()
 }
 
-// how many fields a line has
+// How many fields a line has.
 pub fn count(line: &[u8]) -> usize
     ensures { λ r. ⌜ r ≡ length (fields (now (line .entry))) ⌝ }
 {
@@ -32,7 +32,7 @@ pub fn count(line: &[u8]) -> usize
     n
 }
 
-// the first field of a line, and what stands after its space
+// The first field of a line, and what stands after its space.
 pub fn split(line: &[u8]) -> (&[u8], &[u8])
     ensures field { λ r. ⌜ now (r .0) ≡ getD (fields (now (line .entry))) 0 [] ⌝ }
     ensures rest { λ r. ⌜ (1 < length (fields (now (line .entry))) → fields (now (r .1)) ≡ drop 1 (fields (now (line .entry)))) ⌝ }
@@ -44,7 +44,7 @@ pub fn split(line: &[u8]) -> (&[u8], &[u8])
     (&line[0..n], &line[n + 1..])
 }
 
-// the place of a field in a line, or how many fields the line has
+// The place of a field in a line, or how many fields the line has.
 pub fn place_in(line: &[u8], field: &[u8]) -> usize
     ensures { λ r. ⌜ r ≡ placeIn (fields (now (line .entry))) (now (field .entry)) ⌝ }
 {
@@ -60,7 +60,7 @@ pub fn place_in(line: &[u8], field: &[u8]) -> usize
     n
 }
 
-// the place of a name among a table's names, or how many they are
+// The place of a name among a table's names, or how many they are.
 pub fn column_of(names: &[&[u8]], name: &[u8]) -> usize
     ensures { λ r. ⌜ r ≡ placeIn (held (now (names .entry))) (now (name .entry)) ⌝ }
 {

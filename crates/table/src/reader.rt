@@ -6,6 +6,7 @@ ghost use lib.ListN.{length, getD, drop};
 ghost use Rattle.std.specs.Iters.{counting};
 ghost use Rattle.std.specs.Options.{Cases as BySome};
 ghost use Rattle.std.specs.Results.{Cases as ByOk};
+ghost use Rattle.std.specs.Vec.{made};
 ghost use Rattle.std.specs.declared.option.Option.the-variants.{Some, None};
 ghost use Rattle.std.specs.declared.result.Result.the-variants.{Ok, Err};
 ghost use Rattle.refusal.specs.Numbers.{fault};
@@ -69,7 +70,7 @@ pub struct Rows<'a> {
 // The line that a text begins with, if it has a line feed, at most 200 bytes and the right number of fields.
 fn line_at(text: &[u8], columns: usize, number: usize) -> Result<&[u8], Fault>
     ensures value { λ r. ⌜ ByOk r (λ l. lineAt columns number (lines (now (text .entry))) ≡ Ok (now l)) (λ f. lineAt columns number (lines (now (text .entry))) ≡ Err f) ⌝ }
-    ensures part { λ r. ⌜ ByOk r (λ l. (now l ≡ firstLine (now (text .entry))) × (length (now l) < length (now (text .entry))) × (length (fields (now l)) ≡ columns) × LinePart (now (text .entry)) 0 (now l)) (λ f. ⊥ → ⊥) ⌝ }
+    ensures part { λ r. ⌜ made r (λ l. (now l ≡ firstLine (now (text .entry))) × (length (now l) < length (now (text .entry))) × (length (fields (now l)) ≡ columns) × LinePart (now (text .entry)) 0 (now l)) ⌝ }
 {
     let n = find(text, b'\n');
     if n == text.len() || n > 200 {
@@ -82,7 +83,7 @@ fn line_at(text: &[u8], columns: usize, number: usize) -> Result<&[u8], Fault>
     Ok(line)
 }
 
-// the first field of a names line that is no name of the table or repeats one, from 1
+// The first field of a names line that is no name of the table or repeats one, from 1.
 fn bad_name(names: &[&[u8]], line: &[u8]) -> Option<usize>
     ensures { λ r. ⌜ r ≡ firstNot (goodName (held (now (names .entry))) (fields (now (line .entry)))) 0 (fields (now (line .entry))) ⌝ }
 {
@@ -98,7 +99,7 @@ fn bad_name(names: &[&[u8]], line: &[u8]) -> Option<usize>
     None
 }
 
-// where each name of the table stands in a names line
+// Where each name of the table stands in a names line.
 fn order_of(names: &[&[u8]], line: &[u8]) -> Order
     requires few { ⌜ length (now names) ≤ 13 ⌝ }
     requires small { ⌜ length (fields (now line)) ≤ 13 ⌝ }
@@ -113,7 +114,7 @@ fn order_of(names: &[&[u8]], line: &[u8]) -> Order
     Order { packed }
 }
 
-// the values of a line's fields, or the first field that is no number, from 1
+// The values of a line's fields, or the first field that is no number, from 1.
 fn values(line: &[u8]) -> Result<[i64; 16], usize>
     requires { ⌜ length (fields (now line)) ≤ 13 ⌝ }
     ensures { λ r. ⌜ ByOk r (λ vs. (firstNot goodValue 0 (fields (now (line .entry))) ≡ None) × (length vs ≡ 16) × ((k : ℕ) → getD vs k (pos 0) ≡ valueOf (getD (fields (now (line .entry))) k []))) (λ c. firstNot goodValue 0 (fields (now (line .entry))) ≡ Some c) ⌝ }
@@ -132,7 +133,7 @@ fn values(line: &[u8]) -> Result<[i64; 16], usize>
     Ok(found)
 }
 
-// the values in the table's own order of columns
+// The values in the table's own order of columns.
 fn arranged(found: &[i64], order: Order, columns: usize) -> [i64; 13]
     requires few { ⌜ columns ≤ 13 ⌝ }
     requires all { ⌜ length (now found) ≡ 16 ⌝ }

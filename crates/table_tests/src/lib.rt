@@ -30,51 +30,171 @@ mod tests {
 
     const CASES: [Case; 40] = [
         // accepted
-        Case { text: b"area node on\n", fault: (0, 0, 0, 0) },
-        Case { text: b"area node on\n3 0 1\n", fault: (0, 0, 0, 0) },
-        Case { text: b"on area node\n1 3 0\n0 4 1\n", fault: (0, 0, 0, 0) },
-        Case { text: b"area node on\n2147483647 -2147483647 0\n", fault: (0, 0, 0, 0) },
-        Case { text: b"area node on\n1234567890 -1 9\n", fault: (0, 0, 0, 0) },
+        Case {
+            text: b"area node on\n",
+            fault: (0, 0, 0, 0),
+        },
+        Case {
+            text: b"area node on\n3 0 1\n",
+            fault: (0, 0, 0, 0),
+        },
+        Case {
+            text: b"on area node\n1 3 0\n0 4 1\n",
+            fault: (0, 0, 0, 0),
+        },
+        Case {
+            text: b"area node on\n2147483647 -2147483647 0\n",
+            fault: (0, 0, 0, 0),
+        },
+        Case {
+            text: b"area node on\n1234567890 -1 9\n",
+            fault: (0, 0, 0, 0),
+        },
         // the text
-        Case { text: b"", fault: (1, 1, 1, 0) },
-        Case { text: b"3 0 1\n", fault: (1, 1, 1, 0) },
-        Case { text: b"\narea node on\n", fault: (1, 1, 1, 0) },
-        Case { text: b" area node on\n", fault: (1, 1, 1, 0) },
-        Case { text: b"Area node on\n", fault: (1, 1, 1, 0) },
-        Case { text: b"\x00area node on\n", fault: (1, 1, 1, 0) },
-        Case { text: b"\xffarea node on\n", fault: (1, 1, 1, 0) },
+        Case {
+            text: b"",
+            fault: (1, 1, 1, 0),
+        },
+        Case {
+            text: b"3 0 1\n",
+            fault: (1, 1, 1, 0),
+        },
+        Case {
+            text: b"\narea node on\n",
+            fault: (1, 1, 1, 0),
+        },
+        Case {
+            text: b" area node on\n",
+            fault: (1, 1, 1, 0),
+        },
+        Case {
+            text: b"Area node on\n",
+            fault: (1, 1, 1, 0),
+        },
+        Case {
+            text: b"\x00area node on\n",
+            fault: (1, 1, 1, 0),
+        },
+        Case {
+            text: b"\xffarea node on\n",
+            fault: (1, 1, 1, 0),
+        },
         // the line feed
-        Case { text: b"area node on", fault: (2, 1, 1, 0) },
-        Case { text: b"area node on\n3 0 1", fault: (2, 1, 2, 0) },
-        Case { text: b"area node on\n3 0 1\n4 0 1", fault: (2, 1, 3, 0) },
+        Case {
+            text: b"area node on",
+            fault: (2, 1, 1, 0),
+        },
+        Case {
+            text: b"area node on\n3 0 1",
+            fault: (2, 1, 2, 0),
+        },
+        Case {
+            text: b"area node on\n3 0 1\n4 0 1",
+            fault: (2, 1, 3, 0),
+        },
         // the number of fields
-        Case { text: b"area node\n", fault: (3, 1, 1, 0) },
-        Case { text: b"area node on \n", fault: (3, 1, 1, 0) },
-        Case { text: b"area node on\n\n", fault: (3, 1, 2, 0) },
-        Case { text: b"area node on\n3 0\n", fault: (3, 1, 2, 0) },
-        Case { text: b"area node on\n3 0 1 \n", fault: (3, 1, 2, 0) },
-        Case { text: b"area node on\n3  0 1\n", fault: (3, 1, 2, 0) },
+        Case {
+            text: b"area node\n",
+            fault: (3, 1, 1, 0),
+        },
+        Case {
+            text: b"area node on \n",
+            fault: (3, 1, 1, 0),
+        },
+        Case {
+            text: b"area node on\n\n",
+            fault: (3, 1, 2, 0),
+        },
+        Case {
+            text: b"area node on\n3 0\n",
+            fault: (3, 1, 2, 0),
+        },
+        Case {
+            text: b"area node on\n3 0 1 \n",
+            fault: (3, 1, 2, 0),
+        },
+        Case {
+            text: b"area node on\n3  0 1\n",
+            fault: (3, 1, 2, 0),
+        },
         // the names
-        Case { text: b"area Node on\n", fault: (4, 1, 1, 2) },
-        Case { text: b"area area on\n", fault: (4, 1, 1, 2) },
-        Case { text: b"area node off\n", fault: (4, 1, 1, 3) },
-        Case { text: b"area  on\n", fault: (4, 1, 1, 2) },
-        Case { text: b"area node on\r\n", fault: (4, 1, 1, 3) },
-        Case { text: b"x y on\n", fault: (4, 1, 1, 1) },
-        Case { text: b"area nod\xe9 on\n", fault: (4, 1, 1, 2) },
+        Case {
+            text: b"area Node on\n",
+            fault: (4, 1, 1, 2),
+        },
+        Case {
+            text: b"area area on\n",
+            fault: (4, 1, 1, 2),
+        },
+        Case {
+            text: b"area node off\n",
+            fault: (4, 1, 1, 3),
+        },
+        Case {
+            text: b"area  on\n",
+            fault: (4, 1, 1, 2),
+        },
+        Case {
+            text: b"area node on\r\n",
+            fault: (4, 1, 1, 3),
+        },
+        Case {
+            text: b"x y on\n",
+            fault: (4, 1, 1, 1),
+        },
+        Case {
+            text: b"area nod\xe9 on\n",
+            fault: (4, 1, 1, 2),
+        },
         // the values
-        Case { text: b"area node on\n3 -0 007\n", fault: (5, 2, 2, 2) },
-        Case { text: b"area node on\n3 0 007\n", fault: (5, 2, 2, 3) },
-        Case { text: b"area node on\n+1 0 1\n", fault: (5, 2, 2, 1) },
-        Case { text: b"area node on\n3 0 2147483648\n", fault: (5, 2, 2, 3) },
-        Case { text: b"area node on\n-2147483648 0 1\n", fault: (5, 2, 2, 1) },
-        Case { text: b"area node on\n3 12345678901 1\n", fault: (5, 2, 2, 2) },
-        Case { text: b"area node on\n3  1\n", fault: (5, 2, 2, 2) },
-        Case { text: b"area node on\n3 0 1\r\n", fault: (5, 2, 2, 3) },
-        Case { text: b"area node on\n3 - 1\n", fault: (5, 2, 2, 2) },
-        Case { text: b"area node on\n3 0 1\n3 0 \x00\n", fault: (5, 2, 3, 3) },
-        Case { text: b"area node on\n3 \xb2 1\n", fault: (5, 2, 2, 2) },
-        Case { text: b"area node on\n3 0 x\n3 0\n", fault: (5, 2, 2, 3) },
+        Case {
+            text: b"area node on\n3 -0 007\n",
+            fault: (5, 2, 2, 2),
+        },
+        Case {
+            text: b"area node on\n3 0 007\n",
+            fault: (5, 2, 2, 3),
+        },
+        Case {
+            text: b"area node on\n+1 0 1\n",
+            fault: (5, 2, 2, 1),
+        },
+        Case {
+            text: b"area node on\n3 0 2147483648\n",
+            fault: (5, 2, 2, 3),
+        },
+        Case {
+            text: b"area node on\n-2147483648 0 1\n",
+            fault: (5, 2, 2, 1),
+        },
+        Case {
+            text: b"area node on\n3 12345678901 1\n",
+            fault: (5, 2, 2, 2),
+        },
+        Case {
+            text: b"area node on\n3  1\n",
+            fault: (5, 2, 2, 2),
+        },
+        Case {
+            text: b"area node on\n3 0 1\r\n",
+            fault: (5, 2, 2, 3),
+        },
+        Case {
+            text: b"area node on\n3 - 1\n",
+            fault: (5, 2, 2, 2),
+        },
+        Case {
+            text: b"area node on\n3 0 1\n3 0 \x00\n",
+            fault: (5, 2, 3, 3),
+        },
+        Case {
+            text: b"area node on\n3 \xb2 1\n",
+            fault: (5, 2, 2, 2),
+        },
+        Case {
+            text: b"area node on\n3 0 x\n3 0\n",
+            fault: (5, 2, 2, 3),
+        },
     ];
 
     #[test]
@@ -112,9 +232,15 @@ mod tests {
     #[test]
     fn all_columns() -> Result<(), Fail> {
         let nodes = b"k kind a b px py pz sx sy sz lx ly lz\n13 1 2 3 4 5 6 7 8 9 10 11 12\n";
-        check_eq(row(Table::Nodes, nodes, 0)?, Some([1, 2, 3, 4, 5, 6, 7, 8, 9, 10, 11, 12, 13]))?;
+        check_eq(
+            row(Table::Nodes, nodes, 0)?,
+            Some([1, 2, 3, 4, 5, 6, 7, 8, 9, 10, 11, 12, 13]),
+        )?;
         let legs = b"z2 y2 x2 z1 y1 x1\n6 5 4 3 2 1\n";
-        check_eq(row(Table::Legs, legs, 0)?, Some([1, 2, 3, 4, 5, 6, 0, 0, 0, 0, 0, 0, 0]))?;
+        check_eq(
+            row(Table::Legs, legs, 0)?,
+            Some([1, 2, 3, 4, 5, 6, 0, 0, 0, 0, 0, 0, 0]),
+        )?;
         check_eq(row(Table::Legs, legs, 1)?, None)
     }
 
@@ -125,8 +251,24 @@ mod tests {
         let names = refused.names()?;
         let mut rows = refused.rows(names);
         check(rows.next()?.is_some())?;
-        check_eq(rows.next(), Err(Fault { number: 5, layer: 2, line: 3, column: 1 }))?;
-        check_eq(rows.next(), Err(Fault { number: 5, layer: 2, line: 3, column: 1 }))?;
+        check_eq(
+            rows.next(),
+            Err(Fault {
+                number: 5,
+                layer: 2,
+                line: 3,
+                column: 1,
+            }),
+        )?;
+        check_eq(
+            rows.next(),
+            Err(Fault {
+                number: 5,
+                layer: 2,
+                line: 3,
+                column: 1,
+            }),
+        )?;
         let ended = Opened::new(Table::Areas, b"area node on\n3 0 1\n")?;
         let names = ended.names()?;
         let mut rows = ended.rows(names);

@@ -17,7 +17,7 @@ returns-then-n-text c =
     record {
       value = rw (c .new .ensures) (⊎-elim (λ e. no-feed (c .args .columns) (c .args .number) text n e (h .before))
           (λ w. let lt : n < length text = omega (arith, h .within, w .0) in too-long (c .args .columns) (c .args .number) text n lt (h .before) (h .found lt) (w .1)) (c .then-n-text .either));
-      part = λ x. x;
+      part = tt;
     }
 
 pub returns-then-count-columns : need.returns-then-count-columns
@@ -29,7 +29,7 @@ returns-then-count-columns c =
     let s : c .count .result ≡ length (fields (take n text)) = simp sub-zero at (c .count .ensures) in
     record {
       value = rw (c .new-then-count-columns .ensures) (wrong-count (c .args .columns) (c .args .number) text n lt (h .before) (h .found lt) (c .if-n-gt200 .left) (λ e. c .if-count-columns .taken (s ∙ e)));
-      part = λ x. x;
+      part = tt;
     }
 
 pub returns : need.returns
