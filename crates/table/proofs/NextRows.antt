@@ -47,9 +47,6 @@ module _ (row : List (List ℕ) → List ℤ) (count n : ℕ) (ls : List (List �
   on-line : (l : List ℕ) (o : Option ℕ) → lineAt count n ls ≡ Ok l → firstNot goodValue 0 (fields l) ≡ o → rowAt row count n ls ≡ andThen (unless 5 n (fields l) o) (λ fs. Ok (Some (row fs)))
   on-line l o e b = at-line ∙ ap (λ (r : Result (List ℕ) Fault). andThen r (rowOn row n)) e ∙ ap (λ (p : Option ℕ). andThen (unless 5 n (fields l) p) (λ fs. Ok (Some (row fs)))) b
 
-  pub row-bad : (l : List ℕ) (c : ℕ) → lineAt count n ls ≡ Ok l → firstNot goodValue 0 (fields l) ≡ Some c → Err (fault 5 n c) ≡ rowAt row count n ls
-  row-bad l c e b = sym (on-line l (Some c) e b)
-
   pub row-good : (l : List ℕ) → lineAt count n ls ≡ Ok l → firstNot goodValue 0 (fields l) ≡ None → Ok (Some (row (fields l))) ≡ rowAt row count n ls
   row-good l e b = sym (on-line l None e b)
 
@@ -109,9 +106,6 @@ headed ns ls heads e =
 -- the rest of a text, as a program lends it
 pub lent : (text : List ℕ) (at count columns n : ℕ) → columns ≡ count → lineAt count n (lines (drop at text)) ≡ lineAt columns n (lines (take (length text - at) (drop at text)))
 lent text at count columns n e = ap (λ (r : List ℕ). lineAt count n (lines r)) (sym (take-rest text at)) ∙ ap (λ (k : ℕ). lineAt k n (lines (take (length text - at) (drop at text)))) (sym e)
-
-pub lent-more : (text : List ℕ) (at : ℕ) → (length (take (length text - at) (drop at text)) ≡ 0 → ⊥) → ended (lines (drop at text)) ≡ false
-lent-more text at h = not-ended (drop at text) (λ e. h (ap length (take-rest text at) ∙ e))
 
 -- the names line by what was found in it; count is how many names there are
 module _ (ns : List (List ℕ)) (text : List ℕ) (count : ℕ) (all : count ≡ length ns) where

@@ -121,18 +121,6 @@ row-here (Ok (Some r)) more = refl
 pub row-later : (k i : ℕ) (r : List ℤ) (more : Reading) → i < k → rowOf (k - i) (after (Ok (Some r)) more) ≡ rowOf (k - (i + 1)) more
 row-later k i r more h = let s : k - i ≡ suc (k - (i + 1)) = omega arith in ap (λ (j : ℕ). rowOf j (after (Ok (Some r)) more)) s
 
--- an answer by the packed order of an accepted names line is the answer under its names
-pub under-names : (table : Table) (text : List ℕ) (order n : ℕ) (ls : List (List ℕ)) (r : Result (Option (List ℤ)) Fault) → r ≡ rowAt (rowBy order (length (columnNames table))) (length (columnNames table)) n ls
-    → (heads : List (List ℕ)) → headsOf (columnNames table) text ≡ Ok heads → order ≡ packed (columnNames table) heads → r ≡ rowAt (rowUnder (columnNames table) heads) (length (columnNames table)) n ls
-under-names table text order n ls r v heads e eo =
-    let ns = columnNames table in
-    let h = headed ns (lines text) heads e in
-    let l = ap length (h .are) ∙ h .is .fits in
-    let f = few table in
-    let small : length heads < 16 = omega arith in
-    let rows : rowUnder ns heads ≡ rowBy (packed ns heads) (length ns) = λ i fs. row-by-order ns heads fs small i in
-    v ∙ ap (λ (p : ℕ). rowAt (rowBy p (length ns)) (length ns) n ls) eo ∙ ap (λ (row : List (List ℕ) → List ℤ). rowAt row (length ns) n ls) (sym rows)
-
 -- a text that was opened, whose names line was accepted, says what its row reader has to read
 pub begun : (T T′ T″ : Table) (x x′ x″ : List ℕ) (p : ℕ) (l : Reading) → openedText x ≡ Ok x → x′ ≡ x → T′ ≡ T → x″ ≡ x′ → T″ ≡ T′ → Named T′ x′ p
     → (openedText x″ ≡ Ok x″ → Named T″ x″ p → reading T″ x″ ≡ l) → reading T x ≡ l
