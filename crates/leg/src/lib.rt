@@ -1,0 +1,7 @@
+mod making;
+mod shapes;
+
+pub use shapes::HalfStep;
+pub use shapes::Halves;
+pub use shapes::Leg;
+pub use shapes::Piece;
