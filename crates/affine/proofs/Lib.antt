@@ -1,0 +1,4 @@
+pub mod Ends
+pub mod Holding
+pub mod Choosing
+pub mod Results

@@ -1,0 +1,10 @@
+mod combining;
+mod extremes;
+
+// An affine form: u0 + u1 · (place − middle) / half-width, give or take u2.
+#[derive(Clone, Copy, PartialEq, Eq, Debug)]
+pub struct Form {
+    pub u0: i64,
+    pub u1: i64,
+    pub u2: i64,
+}
