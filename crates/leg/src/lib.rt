@@ -1,4 +1,5 @@
 mod making;
+mod pieces;
 mod shapes;
 
 pub use shapes::HalfStep;

@@ -1,13 +1,10 @@
 ghost use mathlib.Core.Path.{_≡_};
-ghost use mathlib.Core.Bool.{Bool, _&&_};
-ghost use Prim.Native.Nat.{ℕ, _+_, _-_, _*_, _/_, _<_, _≤_};
 ghost use lib.IntN.{ℤ, pos};
 ghost use Rattle.std.specs.Results.{Cases};
 ghost use Rattle.refusal.specs.Numbers.{numberOf};
-ghost use Rattle.leg.specs.Making.{between, onMap, bothOnMap, same, samePoint, legRefusal, Joins, Step, Shaped};
+ghost use Rattle.leg.specs.Making.{between, onMap, bothOnMap, same, samePoint, legRefusal, Joins, Step};
 use crate::shapes::HalfStep;
 use crate::shapes::Leg;
-use crate::shapes::Piece;
 use refusal::Refusal;
 
 fn between(low: i64, x: i64, high: i64) -> bool
