@@ -1,5 +1,8 @@
 mod combining;
 mod extremes;
+mod worked;
+
+pub use worked::worked_product;
 
 // An affine form: u0 + u1 · (place − middle) / half-width, give or take u2.
 #[derive(Clone, Copy, PartialEq, Eq, Debug)]
