@@ -2,3 +2,4 @@ pub mod Ends
 pub mod Holding
 pub mod Choosing
 pub mod Results
+pub mod Fitting

@@ -1,9 +1,11 @@
 -- When an operation on forms can be done in 64 bits: the exact result's numbers, and those on the way, fit.
-use lib.IntN.{ℤ, negℤ, _+ℤ_, _-ℤ_, _*ℤ_}
+use Prim.Native.Nat.{ℕ}
+use lib.IntN.{ℤ, pos, negℤ, _+ℤ_, _-ℤ_, _*ℤ_}
+use lib.Signed.{_≤ℤ_}
 use mir.Syntax.{w64}
 use mir.Val.{SFits}
 use Rattle.std.specs.Numbers.{minZ, maxZ}
-use Rattle.integer.specs.Numbers.{absℤ}
+use Rattle.integer.specs.Numbers.{absℤ, Within}
 use Rattle.affine.specs.declared.Form.{Form}
 use Rattle.affine.specs.Forms.{reachOf, lowEnd, highEnd, centre}
 
@@ -76,3 +78,17 @@ pub record GreaterFits (u v : Form) : Type 0 where
   pub right-low : LowFits v
   pub right-high : HighFits v
   pub span : SpanFits (maxZ (lowEnd u) (lowEnd v)) (maxZ (highEnd u) (highEnd v))
+
+-- ---- two measures of a form, from which an operation is seen to fit
+
+-- no number of the form is above k in absolute value
+pub record Bounded (k : ℕ) (u : Form) : Type 0 where
+  pub first : Within (u .u0) (pos k)
+  pub second : Within (u .u1) (pos k)
+  pub third : Within (u .u2) (pos k)
+
+-- the third number is not negative, and neither end is above k in absolute value
+pub record EndsWithin (k : ℕ) (u : Form) : Type 0 where
+  pub spread : pos 0 ≤ℤ u .u2
+  pub low : Within (lowEnd u) (pos k)
+  pub high : Within (highEnd u) (pos k)
