@@ -1,5 +1,6 @@
 -- The invariant of a piece in the words of its making, and the places of a piece and of its halves.
 use mathlib.Core.Path.{_≡_, refl, sym, ap, _∙_, subst, subst₂}
+use mathlib.Core.Bool.{true}
 use mathlib.Core.Logic.{_⊎_, inl, inr, ⊎-elim}
 use Prim.Native.Nat.{ℕ, _+_, _-_, _*_, _/_, _%_, _^_, _≤_, _<_}
 use native.Mathlib.Nat.{add-mul, mul-comm, mul-assoc, div-add-mod', mul-le-mul-right, add-zero}
@@ -7,13 +8,14 @@ use native.Mathlib.Omega.{arith}
 use lib.Arith.{digits-mod}
 use lib.IntN.{ℤ, pos, negsuc, natAbs, _+ℤ_, _-ℤ_, _*ℤ_}
 use lib.Pow.{pow-pos, pow-mono, pow-add}
-use lib.Signed.{_≤ℤ_, _<ℤ_}
+use lib.Dec.{leb, eqb}
+use lib.Signed.{_≤ℤ_, _<ℤ_, leZ}
 use borrow.Author.Differences.{ints}
 use Rattle.std.proofs.shelf.Signed.{by-ltZ}
-use Rattle.std.proofs.shelf.Tests.{cases-lt}
+use Rattle.std.proofs.shelf.Tests.{cases-lt, and-parts, and-from, eqb-true, eq-eqb, le-leb}
 use Rattle.integer.proofs.Order.{≤ℤ-trans, natural≥0, weaker, product≥0, times-right≤}
 use Rattle.leg.specs.Ranges.{IsPiece}
-use Rattle.leg.specs.Making.{Shaped}
+use Rattle.leg.specs.Making.{between, inBounds, isPiece, Shaped}
 use Rattle.leg.specs.Places.{OnLeg, OnPiece}
 use Rattle.leg.proofs.Halving.{level-of, even-width}
 
@@ -28,24 +30,14 @@ odd-multiple m r odd =
     let turned : j * (2 * r) ≡ 2 * j * r = sym (mul-assoc j 2 r) ∙ ap (λ (x : ℕ). x * r) (mul-comm j 2) in
     omega arith
 
-pub shaped-from : (m r : ℤ) → pos 1 ≤ℤ m → pos 1 ≤ℤ r → IsPiece (natAbs m) (natAbs r) → Shaped m r
-shaped-from (pos m) (pos r) a b piece =
+shaped : (m r : ℕ) → IsPiece m r → Shaped (pos m) (pos r)
+shaped m r piece =
     let level = level-of r (piece .1) in
     let k = level .0 in
     let j = m / (2 * r) in
     let power : r ≡ 2 ^ k = level .2 in
     let whole : m ≡ (2 * j + 1) * 2 ^ k = odd-multiple m r (piece .2) ∙ ap (λ (x : ℕ). (2 * j + 1) * x) power in
     (k, j, level .1, ap pos power, ap pos whole, subst (λ (x : ℕ). x < 4096) whole (piece .3))
-shaped-from (pos m) (negsuc r) a b piece = absurd (b .le)
-shaped-from (negsuc m) r a b piece = absurd (a .le)
-
--- what a piece's numbers keep to, as the tests of its making ask it
-pub record Tested (m r : ℤ) : Type 0 where
-  pub middle : pos (natAbs m) ≡ m
-  pub half : pos (natAbs r) ≡ r
-  pub narrow : natAbs r ≤ 2048
-  pub some : 0 < natAbs m
-  pub piece : IsPiece (natAbs m) (natAbs r)
 
 power-divides : (k : ℕ) → k ≤ 11 → 2048 % 2 ^ k ≡ 0
 power-divides k h =
@@ -53,20 +45,43 @@ power-divides k h =
     let e : 2048 ≡ 2 ^ (11 - k) * 2 ^ k + 0 = ap (λ (x : ℕ). 2 ^ x) levels ∙ pow-add 2 (11 - k) k ∙ sym (add-zero (2 ^ (11 - k) * 2 ^ k)) in
     ap (λ (x : ℕ). x % 2 ^ k) e ∙ digits-mod (2 ^ (11 - k)) (pow-pos k)
 
-pub tested : (m r : ℤ) → Shaped m r → Tested m r
-tested m r s = subst₂ Tested (sym (s .4)) (sym (s .3)) (record {
-  middle = refl;
-  half = refl;
-  narrow = narrow;
-  some = some;
-  piece = (pow-pos (s .0), power-divides (s .0) (s .2), odd, s .5);
+-- ---- the tests of a piece's making, and the invariant
+
+pub record Passed (m r : ℤ) : Type 0 where
+  pub middle : pos (natAbs m) ≡ m
+  pub half : pos (natAbs r) ≡ r
+  pub piece : IsPiece (natAbs m) (natAbs r)
+
+pub passed : (m r : ℤ) → inBounds m r ≡ true → isPiece (natAbs m) (natAbs r) ≡ true → Passed m r
+passed m r bounds test =
+    let both = and-parts (between (pos 1) r (pos 2048)) (between (pos 1) m (pos 4095)) bounds in
+    let rs = and-parts (leZ (pos 1) r) (leZ r (pos 2048)) (both .0) in
+    let ms = and-parts (leZ (pos 1) m) (leZ m (pos 4095)) (both .1) in
+    let parts = and-parts (eqb (2048 % natAbs r) 0) (eqb (natAbs m % (2 * natAbs r)) (natAbs r)) test in
+    record {
+      middle = omega (arith, ints);
+      half = omega (arith, ints);
+      piece = (omega (arith, ints), eqb-true (2048 % natAbs r) 0 (parts .0), eqb-true (natAbs m % (2 * natAbs r)) (natAbs r) (parts .1), omega (arith, ints));
+    }
+
+pub passed-shaped : (m r : ℤ) → Passed m r → Shaped m r
+passed-shaped m r p = subst₂ Shaped (p .middle) (p .half) (shaped (natAbs m) (natAbs r) (p .piece))
+
+pub record Passes (m r : ℤ) : Type 0 where
+  pub bounds : inBounds m r ≡ true
+  pub test : isPiece (natAbs m) (natAbs r) ≡ true
+
+pub shaped-passes : (m r : ℤ) → Shaped m r → Passes m r
+shaped-passes m r s = subst₂ Passes (sym (s .4)) (sym (s .3)) (record {
+  bounds = and-from (between (pos 1) (pos (2 ^ s .0)) (pos 2048)) (between (pos 1) (pos ((2 * s .1 + 1) * 2 ^ s .0)) (pos 4095)) (inside (2 ^ s .0) 2048 (pow-pos (s .0)) (pow-mono (s .2))) (inside ((2 * s .1 + 1) * 2 ^ s .0) 4095 some below);
+  test = and-from _ _ (eq-eqb (2048 % 2 ^ s .0) 0 (power-divides (s .0) (s .2))) (eq-eqb ((2 * s .1 + 1) * 2 ^ s .0 % (2 * 2 ^ s .0)) (2 ^ s .0) odd);
 })
   where
-    narrow : 2 ^ s .0 ≤ 2048
-    narrow = pow-mono (s .2)
-
     some : 0 < (2 * s .1 + 1) * 2 ^ s .0
     some = omega (arith, pow-pos (s .0), add-mul (2 * s .1) 1 (2 ^ s .0))
+
+    below : (2 * s .1 + 1) * 2 ^ s .0 ≤ 4095
+    below = omega (arith, s .5)
 
     odd : (2 * s .1 + 1) * 2 ^ s .0 % (2 * 2 ^ s .0) ≡ 2 ^ s .0
     odd =
@@ -74,6 +89,9 @@ tested m r s = subst₂ Tested (sym (s .4)) (sym (s .3)) (record {
         let turned : s .1 * (2 * p) ≡ 2 * s .1 * p = sym (mul-assoc (s .1) 2 p) ∙ ap (λ (x : ℕ). x * p) (mul-comm (s .1) 2) in
         let e : (2 * s .1 + 1) * p ≡ s .1 * (2 * p) + p = omega (arith, add-mul (2 * s .1) 1 p) in
         ap (λ (x : ℕ). x % (2 * p)) e ∙ digits-mod (s .1) (omega (arith, pow-pos (s .0)))
+
+    inside : (x y : ℕ) → 0 < x → x ≤ y → between (pos 1) (pos x) (pos y) ≡ true
+    inside x y h l = and-from (leb 1 x) (leb x y) (le-leb 1 x (omega arith)) (le-leb x y l)
 
 -- ---- the span of a piece
 

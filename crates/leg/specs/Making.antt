@@ -1,7 +1,8 @@
 -- Which numbers make a leg, a half-step and a piece, and which number sends others back.
 use mathlib.Core.Path.{_≡_}
 use mathlib.Core.Bool.{Bool, _&&_, cond}
-use Prim.Native.Nat.{ℕ, _+_, _*_, _^_, _≤_, _<_}
+use Prim.Native.Nat.{ℕ, _+_, _*_, _%_, _^_, _≤_, _<_}
+use lib.Dec.{eqb}
 use lib.IntN.{ℤ, pos, negsuc}
 use lib.Signed.{_≤ℤ_, leZ}
 use Rattle.leg.specs.declared.shapes.Leg.{Leg}
@@ -34,6 +35,14 @@ Joins leg x1 y1 z1 x2 y2 z2 = (leg .x1 ≡ x1) × (leg .y1 ≡ y1) × (leg .z1 �
 -- a half-step of a leg, from 0 to 4096
 abbrev pub Step : ℤ → Type 0
 Step at = (pos 0 ≤ℤ at) × (at ≤ℤ pos 4096)
+
+-- the bounds of a piece's middle and half-width
+abbrev pub inBounds : ℤ → ℤ → Bool
+inBounds m r = between (pos 1) r (pos 2048) && between (pos 1) m (pos 4095)
+
+-- the half-width divides 2048, and the middle is an odd multiple of it
+abbrev pub isPiece : ℕ → ℕ → Bool
+isPiece m r = eqb (2048 % r) 0 && eqb (m % (2 * r)) r
 
 -- the half-width is a power of two from 1 to 2048, and the middle an odd multiple of it below 4096
 abbrev pub Shaped : ℤ → ℤ → Type 0

@@ -7,7 +7,7 @@ use crate::shapes::HalfStep;
 use crate::shapes::Leg;
 use refusal::Refusal;
 
-fn between(low: i64, x: i64, high: i64) -> bool
+pub(crate) fn between(low: i64, x: i64, high: i64) -> bool
     ensures { λ r. ⌜ r ≡ between low x high ⌝ }
 {
     low <= x && x <= high

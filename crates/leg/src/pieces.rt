@@ -1,15 +1,29 @@
 ghost use mathlib.Core.Path.{_≡_};
-ghost use Prim.Native.Nat.{_+_, _-_, _*_, _/_, _<_};
+ghost use Prim.Native.Nat.{_+_, _-_, _*_, _/_, _<_, _≤_};
 ghost use lib.IntN.{ℤ, pos};
 ghost use Rattle.std.specs.Options.{Cases as BySome};
 ghost use Rattle.std.specs.Results.{Cases as ByOk};
 ghost use Rattle.std.specs.Vec.{made};
 ghost use Rattle.refusal.specs.Numbers.{numberOf};
-ghost use Rattle.leg.specs.Making.{Shaped};
+ghost use Rattle.leg.specs.Making.{inBounds, isPiece, Shaped};
 ghost use Rattle.leg.specs.Places.{OnLeg, On, Halved};
+use crate::making::between;
 use crate::shapes::Halves;
 use crate::shapes::Piece;
 use refusal::Refusal;
+
+fn in_bounds(middle: i64, half: i64) -> bool
+    ensures { λ r. ⌜ r ≡ inBounds middle half ⌝ }
+{
+    between(1, half, 2048) && between(1, middle, 4095)
+}
+
+fn is_piece(middle: u16, half: u16) -> bool
+    requires { ⌜ 0 < half ⌝ ∗ ⌜ half ≤ 2048 ⌝ }
+    ensures { λ r. ⌜ r ≡ isPiece middle half ⌝ }
+{
+    2048 % half == 0 && middle % (2 * half) == half
+}
 
 impl Piece {
     // The piece with this middle and half-width.
@@ -17,12 +31,12 @@ impl Piece {
         ensures value { λ r. ⌜ ByOk r (λ piece. Shaped middle half × (pos (piece .middle) ≡ middle) × (pos (piece .half) ≡ half)) (λ e. (numberOf e ≡ 25) × (Shaped middle half → ⊥)) ⌝ }
         ensures inside { λ r. ⌜ made r (λ piece. (p q : ℤ) → On piece p q → OnLeg p q) ⌝ }
     {
-        if half < 1 || half > 2048 || middle < 1 || middle >= 4096 {
+        if !in_bounds(middle, half) {
             return Err(Refusal::PieceShape);
         }
         let middle = middle as u16;
         let half = half as u16;
-        if 2048 % half == 0 && middle % (2 * half) == half {
+        if is_piece(middle, half) {
             Ok(Piece { middle, half })
         } else {
             Err(Refusal::PieceShape)
