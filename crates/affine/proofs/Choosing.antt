@@ -8,10 +8,11 @@ use lib.Signed.{_≤ℤ_, _<ℤ_, leZ, leZ-yes}
 use borrow.Author.Differences.{ints}
 use Rattle.std.specs.Numbers.{minZ, maxZ}
 use Rattle.std.proofs.shelf.Signed.{clamps}
+use Rattle.integer.specs.Numbers.{RoundedUp}
 use Rattle.integer.proofs.Ring.{ring, _:+_, _:-_, _:*_, con, _:=_}
 use Rattle.integer.proofs.Order.{≤ℤ-trans, weaker, gap, ≥0-same, sum≥0, product≥0, product≥1, cancel≥0, times-right≤}
 use Rattle.integer.proofs.Absolute.{within-from}
-use Rattle.integer.proofs.Division.{RoundedUp, ceiling-rounds}
+use Rattle.integer.proofs.Division.{ceiling-rounds}
 use Rattle.integer.proofs.Extremes.{min-first, min-second, min-greatest, min-is-first, min-is-second, min-has, max-first, max-second, max-least, max-is-first, max-is-second, max-has}
 use Rattle.leg.specs.Places.{OnPiece}
 use Rattle.affine.specs.declared.Form.{Form}

@@ -5,14 +5,14 @@ use lib.IntN.{ℤ, pos, _+ℤ_, _-ℤ_, _*ℤ_}
 use lib.Signed.{_≤ℤ_}
 use borrow.Author.Differences.{ints}
 use Rattle.std.specs.Numbers.{minZ, maxZ}
-use Rattle.integer.specs.Numbers.{Within, absℤ}
+use Rattle.integer.specs.Numbers.{Within, absℤ, RoundedUp}
 use Rattle.integer.proofs.Absolute.{under, over, abs≥0, within-abs, within-abs-self, within-from, within-neg, within-sum, within-product, within-wider}
-use Rattle.integer.proofs.Division.{RoundedUp, ceiling-rounds}
+use Rattle.integer.proofs.Division.{ceiling-rounds}
 use Rattle.integer.proofs.Extremes.{min-has, max-has}
 use Rattle.integer.proofs.Machine.{Fine, within-fits}
 use Rattle.affine.specs.declared.Form.{Form}
 use Rattle.affine.specs.Forms.{lowEnd, highEnd, centre}
-use Rattle.affine.specs.Fits.{Fits, SumFits, ScaledFits, ShiftedFits, OppositeFits, ReachFits, ProductFits, LowFits, HighFits, SpanFits, LesserFits, GreaterFits, Bounded, EndsWithin}
+use Rattle.affine.specs.Fits.{Fits, SumFits, ScaledFits, ShiftedFits, OppositeFits, ReachFits, ProductFits, EndsFit, SpanFits, LesserFits, GreaterFits, Bounded, EndsWithin}
 
 -- a number within a lesser bound than one that fits
 within-below : {z : ℤ} (k l : ℕ) → Within z (pos k) → k ≤ l → Fine l → Fits z
@@ -117,18 +117,10 @@ module _ (k : ℕ) (u : Form) (e : EndsWithin k u) where
       from-abs : (x : ℤ) → Within (absℤ x) (pos k) → Within x (pos k)
       from-abs x w = within-wider (within-abs x) (w .below)
 
-  pub low-fits : Fine k → LowFits u
-  low-fits t = record {
-    slope = within-fits (parts .size) t;
-    middle = within-fits (parts .less) t;
-    end = within-fits (e .low) t;
-  }
-
-  pub high-fits : Fine k → HighFits u
-  high-fits t = record {
-    slope = within-fits (parts .size) t;
-    middle = within-fits (parts .more) t;
-    end = within-fits (e .high) t;
+  pub ends-fit : Fine k → EndsFit u
+  ends-fit t = record {
+    low = record { slope = within-fits (parts .size) t; middle = within-fits (parts .less) t; end = within-fits (e .low) t };
+    high = record { slope = within-fits (parts .size) t; middle = within-fits (parts .more) t; end = within-fits (e .high) t };
   }
 
 -- lo + hi ≤ 2 c ≤ lo + hi + 1, so |c − lo| ≤ k + 1
@@ -146,10 +138,8 @@ span-fits k lo hi v w t = record {
 module _ (k : ℕ) (u v : Form) (a : EndsWithin k u) (b : EndsWithin k v) (t : Fine k) (s : Fine (k + k + 1)) where
   pub lesser-fits : LesserFits u v
   lesser-fits = record {
-    left-low = low-fits k u a t;
-    left-high = high-fits k u a t;
-    right-low = low-fits k v b t;
-    right-high = high-fits k v b t;
+    left = ends-fit k u a t;
+    right = ends-fit k v b t;
     span = span-fits k (minZ (lowEnd u) (lowEnd v)) (minZ (highEnd u) (highEnd v))
         (min-has (lowEnd u) (lowEnd v) (λ (x : ℤ). Within x (pos k)) (a .low) (b .low))
         (min-has (highEnd u) (highEnd v) (λ (x : ℤ). Within x (pos k)) (a .high) (b .high)) s;
@@ -157,10 +147,8 @@ module _ (k : ℕ) (u v : Form) (a : EndsWithin k u) (b : EndsWithin k v) (t : F
 
   pub greater-fits : GreaterFits u v
   greater-fits = record {
-    left-low = low-fits k u a t;
-    left-high = high-fits k u a t;
-    right-low = low-fits k v b t;
-    right-high = high-fits k v b t;
+    left = ends-fit k u a t;
+    right = ends-fit k v b t;
     span = span-fits k (maxZ (lowEnd u) (lowEnd v)) (maxZ (highEnd u) (highEnd v))
         (max-has (lowEnd u) (lowEnd v) (λ (x : ℤ). Within x (pos k)) (a .low) (b .low))
         (max-has (highEnd u) (highEnd v) (λ (x : ℤ). Within x (pos k)) (a .high) (b .high)) s;

@@ -61,22 +61,22 @@ pub record HighFits (u : Form) : Type 0 where
   pub middle : Fits (u .u0 +ℤ absℤ (u .u1))
   pub end : Fits (highEnd u)
 
+pub record EndsFit (u : Form) : Type 0 where
+  pub low : LowFits u
+  pub high : HighFits u
+
 pub record SpanFits (lo hi : ℤ) : Type 0 where
   pub sum : Fits (lo +ℤ hi)
   pub width : Fits (centre lo hi -ℤ lo)
 
 pub record LesserFits (u v : Form) : Type 0 where
-  pub left-low : LowFits u
-  pub left-high : HighFits u
-  pub right-low : LowFits v
-  pub right-high : HighFits v
+  pub left : EndsFit u
+  pub right : EndsFit v
   pub span : SpanFits (minZ (lowEnd u) (lowEnd v)) (minZ (highEnd u) (highEnd v))
 
 pub record GreaterFits (u v : Form) : Type 0 where
-  pub left-low : LowFits u
-  pub left-high : HighFits u
-  pub right-low : LowFits v
-  pub right-high : HighFits v
+  pub left : EndsFit u
+  pub right : EndsFit v
   pub span : SpanFits (maxZ (lowEnd u) (lowEnd v)) (maxZ (highEnd u) (highEnd v))
 
 -- ---- two measures of a form, from which an operation is seen to fit

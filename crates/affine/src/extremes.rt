@@ -1,9 +1,9 @@
 // The ends of forms, and the lesser and the greater of two.
 ghost use mathlib.Core.Path.{_≡_};
 ghost use lib.IntN.{ℤ, pos, _+ℤ_, _*ℤ_};
-ghost use lib.Signed.{_≤ℤ_};
+ghost use lib.Signed.{_≤ℤ_, leZ};
 ghost use Rattle.std.specs.Numbers.{minZ, maxZ};
-ghost use Rattle.integer.specs.Numbers.{ceilingBy};
+ghost use Rattle.integer.specs.Numbers.{RoundedUp};
 ghost use Rattle.leg.specs.Places.{OnPiece};
 ghost use Rattle.affine.specs.Forms.{lowEnd, highEnd, spanOf, lesserOf, greaterOf};
 ghost use Rattle.affine.specs.Holding.{Holds};
@@ -29,11 +29,19 @@ impl Form {
         self.u0 + self.u1.abs() + self.u2
     }
 
+    // That the form ends before the other begins.
+    fn ends_before(self, v: Form) -> bool
+        requires { ⌜ HighFits self ⌝ ∗ ⌜ LowFits v ⌝ }
+        ensures { λ r. ⌜ r ≡ leZ (highEnd self) (lowEnd v) ⌝ }
+    {
+        self.high() <= v.low()
+    }
+
     // z / 2, rounded up.
     fn half_up(z: i64) -> i64
-        ensures { λ r. ⌜ r ≡ ceilingBy z (pos 2) ⌝ }
+        ensures { λ r. ⌜ RoundedUp z (pos 2) r ⌝ }
     {
-        z - z.div_euclid(2)
+        if z > 0 { z / 2 + z % 2 } else { z / 2 }
     }
 
     // All numbers from lo to hi.
@@ -58,16 +66,12 @@ impl Form {
         ensures high { λ w. ⌜ (pos 0 ≤ℤ self .u2 → pos 0 ≤ℤ v .u2 → highEnd w ≤ℤ (minZ (highEnd self) (highEnd v) +ℤ pos 1)) ⌝ }
         ensures holds { λ w. ⌜ ((m r p q n k d : ℤ) → OnPiece m r p q → Holds m r p q self n d → Holds m r p q v k d → Holds m r p q w (minZ n k) d) ⌝ }
     {
-        let self_low = self.low();
-        let self_high = self.high();
-        let v_low = v.low();
-        let v_high = v.high();
-        if self_high <= v_low {
+        if self.ends_before(v) {
             self
-        } else if v_high <= self_low {
+        } else if v.ends_before(self) {
             v
         } else {
-            Form::span(self_low.min(v_low), self_high.min(v_high))
+            Form::span(self.low().min(v.low()), self.high().min(v.high()))
         }
     }
 
@@ -80,16 +84,12 @@ impl Form {
         ensures high { λ w. ⌜ (pos 0 ≤ℤ self .u2 → pos 0 ≤ℤ v .u2 → highEnd w ≤ℤ (maxZ (highEnd self) (highEnd v) +ℤ pos 1)) ⌝ }
         ensures holds { λ w. ⌜ ((m r p q n k d : ℤ) → OnPiece m r p q → Holds m r p q self n d → Holds m r p q v k d → Holds m r p q w (maxZ n k) d) ⌝ }
     {
-        let self_low = self.low();
-        let self_high = self.high();
-        let v_low = v.low();
-        let v_high = v.high();
-        if v_high <= self_low {
+        if v.ends_before(self) {
             self
-        } else if self_high <= v_low {
+        } else if self.ends_before(v) {
             v
         } else {
-            Form::span(self_low.max(v_low), self_high.max(v_high))
+            Form::span(self.low().max(v.low()), self.high().max(v.high()))
         }
     }
 }

@@ -6,18 +6,8 @@ use native.Mathlib.Omega.{arith}
 use lib.IntN.{ℤ, pos, negsuc, negℤ, negℤ-negℤ, _+ℤ_, _-ℤ_, _*ℤ_}
 use lib.Signed.{_≤ℤ_, _<ℤ_}
 use borrow.Author.Differences.{ints}
-use Rattle.integer.specs.Numbers.{floorBy, ceilingBy}
+use Rattle.integer.specs.Numbers.{floorBy, ceilingBy, RoundedDown, RoundedUp}
 use Rattle.integer.proofs.Ring.{ring, _:+_, _:-_, _:*_, con, neg, _:=_}
-
--- d q ≤ z < d q + d
-pub record RoundedDown (z d q : ℤ) : Type 0 where
-  pub below : (d *ℤ q) ≤ℤ z
-  pub above : z <ℤ (d *ℤ q +ℤ d)
-
--- z ≤ d q < z + d
-pub record RoundedUp (z d q : ℤ) : Type 0 where
-  pub above : z ≤ℤ (d *ℤ q)
-  pub below : (d *ℤ q) <ℤ (z +ℤ d)
 
 pub floor-rounds : (z d : ℤ) → pos 1 ≤ℤ d → RoundedDown z d (floorBy z d)
 floor-rounds z (pos zero) h = absurd (omega (arith, ints))
@@ -97,10 +87,3 @@ ceiling-rounds z d h = turned-up z d (floorBy (negℤ z) d) (floor-rounds (neg�
 
 pub ceiling-only : (z d q : ℤ) → pos 1 ≤ℤ d → RoundedUp z d q → q ≡ ceilingBy z d
 ceiling-only z d q h r = sym (negℤ-negℤ q) ∙ ap negℤ (floor-only (negℤ z) d (negℤ q) h (turned-down z d q r))
-
--- half of a number rounded up is the number less its half rounded down
-pub half-up-is : (z : ℤ) → z -ℤ floorBy z (pos 2) ≡ ceilingBy z (pos 2)
-half-up-is z = ceiling-only z (pos 2) (z -ℤ floorBy z (pos 2)) (record { le = tt }) (go (floorBy z (pos 2)) (floor-rounds z (pos 2) (record { le = tt })))
-  where
-    go : (f : ℤ) → RoundedDown z (pos 2) f → RoundedUp z (pos 2) (z -ℤ f)
-    go f r = let a = r .below in let b = r .above in record { above = omega (arith, ints); below = omega (arith, ints) }

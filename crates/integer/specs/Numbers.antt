@@ -1,7 +1,7 @@
 -- Whole numbers without limit: absolute value, |x| ≤ y as two bounds, and division rounded down and up.
 use Prim.Native.Nat.{_/_}
-use lib.IntN.{ℤ, pos, negsuc, negℤ, natAbs}
-use lib.Signed.{_≤ℤ_}
+use lib.IntN.{ℤ, pos, negsuc, negℤ, natAbs, _+ℤ_, _*ℤ_}
+use lib.Signed.{_≤ℤ_, _<ℤ_}
 
 -- |z|
 abbrev pub absℤ : ℤ → ℤ
@@ -20,3 +20,13 @@ floorBy (negsuc a) d = negsuc (a / natAbs d)
 -- z / d rounded up, for d ≥ 1
 abbrev pub ceilingBy : ℤ → ℤ → ℤ
 ceilingBy z d = negℤ (floorBy (negℤ z) d)
+
+-- q is z / d rounded down: d q ≤ z < d q + d
+pub record RoundedDown (z d q : ℤ) : Type 0 where
+  pub below : (d *ℤ q) ≤ℤ z
+  pub above : z <ℤ (d *ℤ q +ℤ d)
+
+-- q is z / d rounded up: z ≤ d q < z + d
+pub record RoundedUp (z d q : ℤ) : Type 0 where
+  pub above : z ≤ℤ (d *ℤ q)
+  pub below : (d *ℤ q) <ℤ (z +ℤ d)
