@@ -128,30 +128,28 @@ pub record GreaterEnds (u v w : Form) : Type 0 where
   pub low : lowEnd w ≡ maxZ (lowEnd u) (lowEnd v)
   pub high : highEnd w ≤ℤ (maxZ (highEnd u) (highEnd v) +ℤ pos 1)
 
--- a ≤ b ≤ c ≤ d, as the ends of two forms apart
-first-low : {a b c d : ℤ} → a ≤ℤ b → b ≤ℤ c → c ≤ℤ d → a ≡ minZ a c
-first-low {a} {b} {c} {d} h k l = omega (arith, ints, clamps)
+-- the ends of two forms of which the first ends before the second begins: a ≤ b ≤ c ≤ d
+record Apart (a b c d : ℤ) : Type 0 where
+  lesser-low : a ≡ minZ a c
+  lesser-high : b ≤ℤ (minZ b d +ℤ pos 1)
+  lesser-low-turned : a ≡ minZ c a
+  lesser-high-turned : b ≤ℤ (minZ d b +ℤ pos 1)
+  greater-low : c ≡ maxZ a c
+  greater-high : d ≤ℤ (maxZ b d +ℤ pos 1)
+  greater-low-turned : c ≡ maxZ c a
+  greater-high-turned : d ≤ℤ (maxZ d b +ℤ pos 1)
 
-first-high : {a b c d : ℤ} → a ≤ℤ b → b ≤ℤ c → c ≤ℤ d → b ≤ℤ (minZ b d +ℤ pos 1)
-first-high {a} {b} {c} {d} h k l = omega (arith, ints, clamps)
-
-second-low : {a b c d : ℤ} → a ≤ℤ b → b ≤ℤ c → c ≤ℤ d → a ≡ minZ c a
-second-low {a} {b} {c} {d} h k l = omega (arith, ints, clamps)
-
-second-high : {a b c d : ℤ} → a ≤ℤ b → b ≤ℤ c → c ≤ℤ d → b ≤ℤ (minZ d b +ℤ pos 1)
-second-high {a} {b} {c} {d} h k l = omega (arith, ints, clamps)
-
-last-low : {a b c d : ℤ} → a ≤ℤ b → b ≤ℤ c → c ≤ℤ d → c ≡ maxZ c a
-last-low {a} {b} {c} {d} h k l = omega (arith, ints, clamps)
-
-last-high : {a b c d : ℤ} → a ≤ℤ b → b ≤ℤ c → c ≤ℤ d → d ≤ℤ (maxZ d b +ℤ pos 1)
-last-high {a} {b} {c} {d} h k l = omega (arith, ints, clamps)
-
-next-low : {a b c d : ℤ} → a ≤ℤ b → b ≤ℤ c → c ≤ℤ d → c ≡ maxZ a c
-next-low {a} {b} {c} {d} h k l = omega (arith, ints, clamps)
-
-next-high : {a b c d : ℤ} → a ≤ℤ b → b ≤ℤ c → c ≤ℤ d → d ≤ℤ (maxZ b d +ℤ pos 1)
-next-high {a} {b} {c} {d} h k l = omega (arith, ints, clamps)
+apart : {a b c d : ℤ} → a ≤ℤ b → b ≤ℤ c → c ≤ℤ d → Apart a b c d
+apart {a} {b} {c} {d} h k l = record {
+  lesser-low = omega (arith, ints, clamps);
+  lesser-high = omega (arith, ints, clamps);
+  lesser-low-turned = omega (arith, ints, clamps);
+  lesser-high-turned = omega (arith, ints, clamps);
+  greater-low = omega (arith, ints, clamps);
+  greater-high = omega (arith, ints, clamps);
+  greater-low-turned = omega (arith, ints, clamps);
+  greater-high-turned = omega (arith, ints, clamps);
+}
 
 min-ordered : {a b c d : ℤ} → a ≤ℤ b → c ≤ℤ d → minZ a c ≤ℤ minZ b d
 min-ordered {a} {b} {c} {d} h k = omega (arith, ints, clamps)
@@ -170,18 +168,18 @@ module _ (u v : Form) (u2≥0 : pos 0 ≤ℤ u .u2) (v2≥0 : pos 0 ≤ℤ v .u2
   unfolding lesserOf
   lesser-ends =
       by-test (leZ (highEnd u) (lowEnd v)) (LesserEnds u v)
-      (λ t. record { kept = u2≥0; low = first-low u-ordered (leZ-yes t) v-ordered; high = first-high u-ordered (leZ-yes t) v-ordered })
+      (λ t. let ends = apart u-ordered (leZ-yes t) v-ordered in record { kept = u2≥0; low = ends .lesser-low; high = ends .lesser-high })
       (λ _. by-test (leZ (highEnd v) (lowEnd u)) (LesserEnds u v)
-      (λ t. record { kept = v2≥0; low = second-low v-ordered (leZ-yes t) u-ordered; high = second-high v-ordered (leZ-yes t) u-ordered })
+      (λ t. let ends = apart v-ordered (leZ-yes t) u-ordered in record { kept = v2≥0; low = ends .lesser-low-turned; high = ends .lesser-high-turned })
       (λ _. record { kept = span-kept _ _ (min-ordered u-ordered v-ordered); low = span-low _ _; high = span-high (minZ (lowEnd u) (lowEnd v)) _ }))
 
   pub greater-ends : GreaterEnds u v (greaterOf u v)
   unfolding greaterOf
   greater-ends =
       by-test (leZ (highEnd v) (lowEnd u)) (GreaterEnds u v)
-      (λ t. record { kept = u2≥0; low = last-low v-ordered (leZ-yes t) u-ordered; high = last-high v-ordered (leZ-yes t) u-ordered })
+      (λ t. let ends = apart v-ordered (leZ-yes t) u-ordered in record { kept = u2≥0; low = ends .greater-low-turned; high = ends .greater-high-turned })
       (λ _. by-test (leZ (highEnd u) (lowEnd v)) (GreaterEnds u v)
-      (λ t. record { kept = v2≥0; low = next-low u-ordered (leZ-yes t) v-ordered; high = next-high u-ordered (leZ-yes t) v-ordered })
+      (λ t. let ends = apart u-ordered (leZ-yes t) v-ordered in record { kept = v2≥0; low = ends .greater-low; high = ends .greater-high })
       (λ _. record { kept = span-kept _ _ (max-ordered u-ordered v-ordered); low = span-low _ _; high = span-high (maxZ (lowEnd u) (lowEnd v)) _ }))
 
 -- ---- the three cases of each, by what its two tests say

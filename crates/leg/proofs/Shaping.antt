@@ -15,7 +15,7 @@ use Rattle.std.proofs.shelf.Signed.{by-ltZ}
 use Rattle.std.proofs.shelf.Tests.{cases-lt, and-parts, and-from, eqb-true, eq-eqb, le-leb}
 use Rattle.integer.proofs.Order.{≤ℤ-trans, natural≥0, weaker, product≥0, times-right≤}
 use Rattle.leg.specs.Ranges.{IsPiece}
-use Rattle.leg.specs.Making.{between, inBounds, isPiece, Shaped}
+use Rattle.leg.specs.Making.{isBetween, inBounds, isPiece, Shaped}
 use Rattle.leg.specs.Places.{OnLeg, OnPiece}
 use Rattle.leg.proofs.Halving.{level-of, even-width}
 
@@ -54,7 +54,7 @@ pub record Passed (m r : ℤ) : Type 0 where
 
 pub passed : (m r : ℤ) → inBounds m r ≡ true → isPiece (natAbs m) (natAbs r) ≡ true → Passed m r
 passed m r bounds test =
-    let both = and-parts (between (pos 1) r (pos 2048)) (between (pos 1) m (pos 4095)) bounds in
+    let both = and-parts (isBetween (pos 1) r (pos 2048)) (isBetween (pos 1) m (pos 4095)) bounds in
     let rs = and-parts (leZ (pos 1) r) (leZ r (pos 2048)) (both .0) in
     let ms = and-parts (leZ (pos 1) m) (leZ m (pos 4095)) (both .1) in
     let parts = and-parts (eqb (2048 % natAbs r) 0) (eqb (natAbs m % (2 * natAbs r)) (natAbs r)) test in
@@ -73,7 +73,7 @@ pub record Passes (m r : ℤ) : Type 0 where
 
 pub shaped-passes : (m r : ℤ) → Shaped m r → Passes m r
 shaped-passes m r s = subst₂ Passes (sym (s .4)) (sym (s .3)) (record {
-  bounds = and-from (between (pos 1) (pos (2 ^ s .0)) (pos 2048)) (between (pos 1) (pos ((2 * s .1 + 1) * 2 ^ s .0)) (pos 4095)) (inside (2 ^ s .0) 2048 (pow-pos (s .0)) (pow-mono (s .2))) (inside ((2 * s .1 + 1) * 2 ^ s .0) 4095 some below);
+  bounds = and-from (isBetween (pos 1) (pos (2 ^ s .0)) (pos 2048)) (isBetween (pos 1) (pos ((2 * s .1 + 1) * 2 ^ s .0)) (pos 4095)) (inside (2 ^ s .0) 2048 (pow-pos (s .0)) (pow-mono (s .2))) (inside ((2 * s .1 + 1) * 2 ^ s .0) 4095 some below);
   test = and-from _ _ (eq-eqb (2048 % 2 ^ s .0) 0 (power-divides (s .0) (s .2))) (eq-eqb ((2 * s .1 + 1) * 2 ^ s .0 % (2 * 2 ^ s .0)) (2 ^ s .0) odd);
 })
   where
@@ -90,7 +90,7 @@ shaped-passes m r s = subst₂ Passes (sym (s .4)) (sym (s .3)) (record {
         let e : (2 * s .1 + 1) * p ≡ s .1 * (2 * p) + p = omega (arith, add-mul (2 * s .1) 1 p) in
         ap (λ (x : ℕ). x % (2 * p)) e ∙ digits-mod (s .1) (omega (arith, pow-pos (s .0)))
 
-    inside : (x y : ℕ) → 0 < x → x ≤ y → between (pos 1) (pos x) (pos y) ≡ true
+    inside : (x y : ℕ) → 0 < x → x ≤ y → isBetween (pos 1) (pos x) (pos y) ≡ true
     inside x y h l = and-from (leb 1 x) (leb x y) (le-leb 1 x (omega arith)) (le-leb x y l)
 
 -- ---- the span of a piece

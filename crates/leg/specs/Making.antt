@@ -8,21 +8,21 @@ use lib.Signed.{_≤ℤ_, leZ}
 use Rattle.leg.specs.declared.shapes.Leg.{Leg}
 
 -- low ≤ x ≤ high
-abbrev pub between : ℤ → ℤ → ℤ → Bool
-between low x high = leZ low x && leZ x high
+abbrev pub isBetween : ℤ → ℤ → ℤ → Bool
+isBetween low x high = leZ low x && leZ x high
 
 -- a point of the map: x and y from -4096 to 4096, z from -16 to 660
 abbrev pub onMap : ℤ → ℤ → ℤ → Bool
-onMap x y z = between (negsuc 4095) x (pos 4096) && (between (negsuc 4095) y (pos 4096) && between (negsuc 15) z (pos 660))
+onMap x y z = isBetween (negsuc 4095) x (pos 4096) && (isBetween (negsuc 4095) y (pos 4096) && isBetween (negsuc 15) z (pos 660))
 
 abbrev pub bothOnMap : ℤ → ℤ → ℤ → ℤ → ℤ → ℤ → Bool
 bothOnMap x1 y1 z1 x2 y2 z2 = onMap x1 y1 z1 && onMap x2 y2 z2
 
-abbrev pub same : ℤ → ℤ → Bool
-same a b = leZ a b && leZ b a
+abbrev pub isSame : ℤ → ℤ → Bool
+isSame a b = leZ a b && leZ b a
 
 abbrev pub samePoint : ℤ → ℤ → ℤ → ℤ → ℤ → ℤ → Bool
-samePoint x1 y1 z1 x2 y2 z2 = (same x1 x2 && same y1 y2) && same z1 z2
+samePoint x1 y1 z1 x2 y2 z2 = (isSame x1 x2 && isSame y1 y2) && isSame z1 z2
 
 -- the number of the first refusal that fits a leg, or 0: 19 for a coordinate outside its range, 20 for a start that is the end
 abbrev pub legRefusal : ℤ → ℤ → ℤ → ℤ → ℤ → ℤ → ℕ
@@ -38,7 +38,7 @@ Step at = (pos 0 ≤ℤ at) × (at ≤ℤ pos 4096)
 
 -- the bounds of a piece's middle and half-width
 abbrev pub inBounds : ℤ → ℤ → Bool
-inBounds m r = between (pos 1) r (pos 2048) && between (pos 1) m (pos 4095)
+inBounds m r = isBetween (pos 1) r (pos 2048) && isBetween (pos 1) m (pos 4095)
 
 -- the half-width divides 2048, and the middle is an odd multiple of it
 abbrev pub isPiece : ℕ → ℕ → Bool

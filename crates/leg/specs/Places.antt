@@ -2,8 +2,10 @@
 use mathlib.Core.Path.{_≡_}
 use mathlib.Core.Logic.{_⊎_}
 use Prim.Native.Nat.{_+_, _-_, _/_, _<_}
-use lib.IntN.{ℤ, pos, _+ℤ_, _-ℤ_, _*ℤ_}
+use lib.IntN.{ℤ, pos, negsuc, _+ℤ_, _-ℤ_, _*ℤ_}
 use lib.Signed.{_≤ℤ_}
+use Rattle.integer.specs.Numbers.{Within}
+use Rattle.leg.specs.declared.shapes.Leg.{Leg}
 use Rattle.leg.specs.declared.shapes.Piece.{Piece}
 use Rattle.leg.specs.declared.shapes.Halves.{Halves}
 
@@ -23,6 +25,13 @@ pub record OnPiece (m r p q : ℤ) : Type 0 where
 -- q times the scaled coordinate at p, q of a leg on which a coordinate goes from a to b: 4096 a + (b − a) p/q
 abbrev pub coordinate : (a b p q : ℤ) → ℤ
 coordinate a b p q = pos 4096 *ℤ a *ℤ q +ℤ (b -ℤ a) *ℤ p
+
+-- the scaled coordinates of a leg at p, q lie in the scaled ranges: 4096 · 4096 = 2^24, 4096 · 16 = 65536 and 4096 · 660 = 2703360
+pub record CoordinatesWithin (leg : Leg) (p q : ℤ) : Type 0 where
+  pub x : Within (coordinate (leg .x1) (leg .x2) p q) (pos 16777216 *ℤ q)
+  pub y : Within (coordinate (leg .y1) (leg .y2) p q) (pos 16777216 *ℤ q)
+  pub z-from : (negsuc 65535 *ℤ q) ≤ℤ coordinate (leg .z1) (leg .z2) p q
+  pub z-to : coordinate (leg .z1) (leg .z2) p q ≤ℤ (pos 2703360 *ℤ q)
 
 -- p, q is a place of this piece
 abbrev pub On : Piece → ℤ → ℤ → Type 0

@@ -1,18 +1,23 @@
+// Legs and half-steps from any numbers.
 ghost use mathlib.Core.Path.{_≡_};
 ghost use lib.IntN.{ℤ, pos};
 ghost use Rattle.std.specs.Results.{Cases};
+ghost use Rattle.std.specs.Vec.{made};
 ghost use Rattle.refusal.specs.Numbers.{numberOf};
-ghost use Rattle.leg.specs.Making.{between, onMap, bothOnMap, same, samePoint, legRefusal, Joins, Step};
+ghost use Rattle.leg.specs.Making.{isBetween, onMap, bothOnMap, isSame, samePoint, legRefusal, Joins, Step};
+ghost use Rattle.leg.specs.Places.{OnLeg, CoordinatesWithin};
 use crate::shapes::HalfStep;
 use crate::shapes::Leg;
 use refusal::Refusal;
 
+// low ≤ x ≤ high
 pub(crate) fn between(low: i64, x: i64, high: i64) -> bool
-    ensures { λ r. ⌜ r ≡ between low x high ⌝ }
+    ensures { λ r. ⌜ r ≡ isBetween low x high ⌝ }
 {
     low <= x && x <= high
 }
 
+// x and y from -4096 to 4096, z from -16 to 660
 fn on_map(x: i64, y: i64, z: i64) -> bool
     ensures { λ r. ⌜ r ≡ onMap x y z ⌝ }
 {
@@ -26,7 +31,7 @@ fn both_on_map(x1: i64, y1: i64, z1: i64, x2: i64, y2: i64, z2: i64) -> bool
 }
 
 fn same(a: i64, b: i64) -> bool
-    ensures { λ r. ⌜ r ≡ same a b ⌝ }
+    ensures { λ r. ⌜ r ≡ isSame a b ⌝ }
 {
     a == b
 }
@@ -40,7 +45,8 @@ fn same_point(x1: i64, y1: i64, z1: i64, x2: i64, y2: i64, z2: i64) -> bool
 impl Leg {
     // The leg from (x1, y1, z1) to (x2, y2, z2).
     pub fn new(x1: i64, y1: i64, z1: i64, x2: i64, y2: i64, z2: i64) -> Result<Leg, Refusal>
-        ensures { λ r. ⌜ Cases r (λ leg. (legRefusal x1 y1 z1 x2 y2 z2 ≡ 0) × Joins leg x1 y1 z1 x2 y2 z2) (λ e. numberOf e ≡ legRefusal x1 y1 z1 x2 y2 z2) ⌝ }
+        ensures value { λ r. ⌜ Cases r (λ leg. (legRefusal x1 y1 z1 x2 y2 z2 ≡ 0) × Joins leg x1 y1 z1 x2 y2 z2) (λ e. numberOf e ≡ legRefusal x1 y1 z1 x2 y2 z2) ⌝ }
+        ensures scaled { λ r. ⌜ made r (λ leg. (p q : ℤ) → OnLeg p q → CoordinatesWithin leg p q) ⌝ }
     {
         if !both_on_map(x1, y1, z1, x2, y2, z2) {
             Err(Refusal::CoordinateRange)

@@ -1,3 +1,4 @@
+// Pieces from any numbers, their halves, and the numbers of the finest.
 ghost use mathlib.Core.Path.{_≡_};
 ghost use Prim.Native.Nat.{_+_, _-_, _*_, _/_, _<_, _≤_};
 ghost use lib.IntN.{ℤ, pos};

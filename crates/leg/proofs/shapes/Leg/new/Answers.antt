@@ -3,6 +3,7 @@ use Rattle.std.proofs.shelf.Signed.{toZ-ofZ}
 use Rattle.std.proofs.shelf.Tests.{and-parts}
 use Rattle.integer.proofs.Machine.{stored}
 use Rattle.leg.specs.Making.{onMap}
+use Rattle.leg.proofs.Places.{coordinates-within}
 use Rattle.leg.proofs.Tests.{in-range, apart}
 use Rattle.leg.proofs.shapes.Leg.new.Needs as need
 
@@ -22,7 +23,7 @@ returns-then-not-both-on-map c =
     let a = c .fits .x1 in let b = c .fits .y1 in let d = c .fits .z1 in
     let e = c .fits .x2 in let f = c .fits .y2 in let g = c .fits .z2 in
     let off = simp toZ-ofZ at (c .both-on-map .ensures) in
-    rw (sym off ∙ c .if-not-both-on-map .taken)
+    record { value = rw (sym off ∙ c .if-not-both-on-map .taken); scaled = tt }
 
 pub returns-then-same-point : need.returns-then-same-point
 returns-then-same-point c =
@@ -30,14 +31,18 @@ returns-then-same-point c =
     let e = c .fits .x2 in let f = c .fits .y2 in let g = c .fits .z2 in
     let on = simp toZ-ofZ at (c .both-on-map .ensures) in
     let one = simp toZ-ofZ at (c .same-point .ensures) in
-    rw (sym on ∙ c .if-not-both-on-map .left, sym one ∙ c .if-same-point .taken)
+    record { value = rw (sym on ∙ c .if-not-both-on-map .left, sym one ∙ c .if-same-point .taken); scaled = tt }
 
 pub returns-else-same-point : need.returns-else-same-point
 returns-else-same-point c =
     let a = c .fits .x1 in let b = c .fits .y1 in let d = c .fits .z1 in
     let e = c .fits .x2 in let f = c .fits .y2 in let g = c .fits .z2 in
     let on = simp toZ-ofZ at (c .both-on-map .ensures) in
-    let two = simp toZ-ofZ at (c .same-point .ensures) in (
-      rw (sym on ∙ c .if-not-both-on-map .left, sym two ∙ c .if-same-point .left),
-      (simp toZ-ofZ, simp toZ-ofZ, simp toZ-ofZ, simp toZ-ofZ, simp toZ-ofZ, simp toZ-ofZ),
-    )
+    let two = simp toZ-ofZ at (c .same-point .ensures) in
+    record {
+      value = (
+        rw (sym on ∙ c .if-not-both-on-map .left, sym two ∙ c .if-same-point .left),
+        (simp toZ-ofZ, simp toZ-ofZ, simp toZ-ofZ, simp toZ-ofZ, simp toZ-ofZ, simp toZ-ofZ),
+      );
+      scaled = λ p q at. coordinates-within _ p q at;
+    }
