@@ -10,7 +10,7 @@ use Rattle.std.specs.Numbers.{minZ, maxZ}
 use Rattle.std.proofs.shelf.Signed.{clamps}
 use Rattle.integer.specs.Numbers.{RoundedUp}
 use Rattle.integer.proofs.Ring.{ring, _:+_, _:-_, _:*_, con, _:=_}
-use Rattle.integer.proofs.Order.{≤ℤ-trans, weaker, gap, ≥0-same, sum≥0, product≥0, product≥1, cancel≥0, times-right≤}
+use Rattle.integer.proofs.Order.{≤ℤ-trans, weaker, gap, ≥0-same, sum≥0, product≥0, product≥1, times-right≤}
 use Rattle.integer.proofs.Absolute.{within-from}
 use Rattle.integer.proofs.Division.{ceiling-rounds}
 use Rattle.integer.proofs.Extremes.{min-first, min-second, min-greatest, min-is-first, min-is-second, min-has, max-first, max-second, max-least, max-is-first, max-is-second, max-has}
@@ -19,7 +19,7 @@ use Rattle.affine.specs.declared.Form.{Form}
 use Rattle.affine.specs.Forms.{lowEnd, highEnd, centre, spanOf, lesserOf, greaterOf}
 use Rattle.affine.specs.Holding.{Holds}
 use Rattle.affine.proofs.Ends.{low≤high}
-use Rattle.affine.proofs.Holding.{spread≥0, above-low, below-high}
+use Rattle.affine.proofs.Holding.{above-low, below-high}
 
 -- a test's two cases
 by-test : (t : Bool) {x y : Form} (P : Form → Type 0) → (T t → P x) → (T (not t) → P y) → P (cond t x y)

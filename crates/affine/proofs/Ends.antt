@@ -1,6 +1,6 @@
 -- The ends of a form, and its third number.
 use mathlib.Core.Path.{_≡_, refl}
-use lib.IntN.{ℤ, pos}
+use lib.IntN.{pos}
 use lib.Signed.{_≤ℤ_}
 use Rattle.integer.specs.Numbers.{absℤ}
 use Rattle.integer.proofs.Ring.{ring, _:+_, _:-_, _:=_}

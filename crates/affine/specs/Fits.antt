@@ -92,3 +92,11 @@ pub record EndsWithin (k : ℕ) (u : Form) : Type 0 where
   pub spread : pos 0 ≤ℤ u .u2
   pub low : Within (lowEnd u) (pos k)
   pub high : Within (highEnd u) (pos k)
+
+-- forms whose ends are within k can be added, turned, measured and compared
+pub record Suffices (k : ℕ) : Type 0 where
+  pub sum : (u v : Form) → EndsWithin k u → EndsWithin k v → SumFits u v
+  pub opposite : (u : Form) → EndsWithin k u → OppositeFits u
+  pub ends : (u : Form) → EndsWithin k u → EndsFit u
+  pub lesser : (u v : Form) → EndsWithin k u → EndsWithin k v → LesserFits u v
+  pub greater : (u v : Form) → EndsWithin k u → EndsWithin k v → GreaterFits u v

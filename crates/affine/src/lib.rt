@@ -1,7 +1,9 @@
 mod combining;
 mod extremes;
+mod limits;
 mod worked;
 
+pub use limits::ends_limit;
 pub use worked::worked_product;
 
 // An affine form: u0 + u1 · (place − middle) / half-width, give or take u2.

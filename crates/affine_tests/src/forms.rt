@@ -3,6 +3,7 @@ ghost use Rattle.affine.specs.Worked.{form};
 use affine::Form;
 use affine::FormDebug;
 use affine::FormPartialEq;
+use affine::ends_limit;
 use affine::worked_product;
 use std::test::*;
 
@@ -45,7 +46,8 @@ fn ends() -> Result<(), Fail> {
     check_eq(form(15, 7, 20).low(), -12)?;
     check_eq(form(15, 7, 20).high(), 42)?;
     check_eq(form(0, -5, 2).low(), -7)?;
-    check_eq(form(0, -5, 2).high(), 7)
+    check_eq(form(0, -5, 2).high(), 7)?;
+    check_eq(ends_limit(), 2305843009215791104)
 }
 
 #[test]

@@ -1,19 +1,19 @@
 -- The invariant of a piece in the words of its making, and the places of a piece and of its halves.
-use mathlib.Core.Path.{_≡_, refl, sym, ap, _∙_, subst, subst₂}
+use mathlib.Core.Path.{_≡_, sym, ap, _∙_, subst, subst₂}
 use mathlib.Core.Bool.{true}
 use mathlib.Core.Logic.{_⊎_, inl, inr, ⊎-elim}
 use Prim.Native.Nat.{ℕ, _+_, _-_, _*_, _/_, _%_, _^_, _≤_, _<_}
 use native.Mathlib.Nat.{add-mul, mul-comm, mul-assoc, div-add-mod', mul-le-mul-right, add-zero}
 use native.Mathlib.Omega.{arith}
 use lib.Arith.{digits-mod}
-use lib.IntN.{ℤ, pos, negsuc, natAbs, _+ℤ_, _-ℤ_, _*ℤ_}
+use lib.IntN.{ℤ, pos, natAbs, _+ℤ_, _-ℤ_, _*ℤ_}
 use lib.Pow.{pow-pos, pow-mono, pow-add}
 use lib.Dec.{leb, eqb}
 use lib.Signed.{_≤ℤ_, _<ℤ_, leZ}
 use borrow.Author.Differences.{ints}
 use Rattle.std.proofs.shelf.Signed.{by-ltZ}
 use Rattle.std.proofs.shelf.Tests.{cases-lt, and-parts, and-from, eqb-true, eq-eqb, le-leb}
-use Rattle.integer.proofs.Order.{≤ℤ-trans, natural≥0, weaker, product≥0, times-right≤}
+use Rattle.integer.proofs.Order.{≤ℤ-trans, weaker, product≥0, times-right≤}
 use Rattle.leg.specs.Ranges.{IsPiece}
 use Rattle.leg.specs.Making.{isBetween, inBounds, isPiece, Shaped}
 use Rattle.leg.specs.Places.{OnLeg, OnPiece}

@@ -1,10 +1,9 @@
 -- What the tests of a leg's numbers say.
-use mathlib.Core.Path.{_≡_, refl, sym, _∙_}
-use mathlib.Core.Bool.{Bool, true, false, _&&_, cond}
-use Prim.Native.Nat.{ℕ}
+use mathlib.Core.Path.{_≡_, sym, _∙_}
+use mathlib.Core.Bool.{Bool, true, false, _&&_}
 use native.Mathlib.Omega.{arith}
 use lib.IntN.{ℤ, pos, negsuc}
-use lib.Signed.{_≤ℤ_, leZ}
+use lib.Signed.{leZ}
 use borrow.Author.Differences.{ints}
 use Rattle.std.proofs.shelf.Tests.{and-parts, and-from, both-ways}
 use Rattle.leg.specs.Ranges.{InRange, Apart}
@@ -13,13 +12,6 @@ use Rattle.leg.specs.Making.{isBetween, onMap, isSame, samePoint}
 -- the second part of `a && b`, where the first came out true
 pub and-second : (a b r s : Bool) → r ≡ true → r ≡ a → s ≡ b → s ≡ (a && b)
 and-second a b r s t e f = rw (sym e ∙ t) f
-
--- `cond` by a test that a call answered
-pub by-true : {A : Type 0} (t r : Bool) (x y : A) → r ≡ t → r ≡ true → x ≡ cond t x y
-by-true t r x y e f = rw (sym e ∙ f)
-
-pub by-false : {A : Type 0} (t r : Bool) (x y : A) → r ≡ t → r ≡ false → y ≡ cond t x y
-by-false t r x y e f = rw (sym e ∙ f)
 
 pub in-range : (x y z : ℤ) → onMap x y z ≡ true → InRange x y z
 in-range x y z t =

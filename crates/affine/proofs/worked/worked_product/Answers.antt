@@ -1,4 +1,4 @@
-use mathlib.Core.Path.{refl, _∙_}
+use mathlib.Core.Path.{refl}
 use Rattle.affine.specs.Forms.{productOf, lesserOf, greaterOf}
 use Rattle.affine.proofs.worked.worked_product.Needs as need
 
