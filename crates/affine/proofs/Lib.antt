@@ -1,0 +1,5 @@
+pub mod Ends
+pub mod Holding
+pub mod Choosing
+pub mod Results
+pub mod Fitting

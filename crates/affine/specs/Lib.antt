@@ -1,0 +1,4 @@
+pub mod Forms
+pub mod Holding
+pub mod Fits
+pub mod Worked

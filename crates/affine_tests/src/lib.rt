@@ -1,0 +1,5 @@
+// Edges of legs, half-steps, pieces and forms.
+#[cfg(test)]
+mod forms;
+#[cfg(test)]
+mod legs;
