@@ -4,3 +4,6 @@ mod verdict;
 
 pub use halving::check;
 pub use verdict::Verdict;
+pub use verdict::VerdictDebug;
+pub use verdict::VerdictEq;
+pub use verdict::VerdictPartialEq;
