@@ -1,13 +1,16 @@
-// What a field is, and the fields that are made of fields.
+// What a field is, and the layers: fields that are made of fields. A layer is made in two steps: `fits` says whether its reach is one that a field may have, and
+// `new` makes it and cannot refuse.
+mod common_parts;
 mod field;
-mod layers;
 mod limit;
+mod outsides;
+mod unions;
 
+pub use common_parts::Common;
+pub use common_parts::CommonField;
 pub use field::Field;
 pub use field::LentField;
-pub use layers::Common;
-pub use layers::CommonField;
-pub use layers::Outside;
-pub use layers::OutsideField;
-pub use layers::Union;
-pub use layers::UnionField;
+pub use outsides::Outside;
+pub use outsides::OutsideField;
+pub use unions::Union;
+pub use unions::UnionField;

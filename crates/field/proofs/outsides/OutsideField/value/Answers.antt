@@ -2,7 +2,7 @@ use lib.IntN.{pos}
 use Rattle.field.specs.Opposing.{outside-laws}
 use Rattle.field.specs.Layers.{outsideOf}
 use Rattle.field.proofs.Fitting.{value-fits, opposite-answer}
-use Rattle.field.proofs.layers.OutsideField.value.Needs as need
+use Rattle.field.proofs.outsides.OutsideField.value.Needs as need
 
 pub sub-result : need.sub-result
 sub-result g c =

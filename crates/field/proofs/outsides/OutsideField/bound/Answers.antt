@@ -1,5 +1,5 @@
 use Rattle.field.proofs.Fitting.{bound-opposite-fits}
-use Rattle.field.proofs.layers.OutsideField.bound.Needs as need
+use Rattle.field.proofs.outsides.OutsideField.bound.Needs as need
 
 pub opposite-requires : need.opposite-requires
 opposite-requires g c κs =
