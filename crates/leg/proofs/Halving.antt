@@ -67,7 +67,7 @@ module _ (m r : ℕ) (piece : IsPiece m r) (wide : 1 < r) where
   twice-h = even-width r (piece .1) wide
 
   -- The middle, in parts of a quarter of the piece's width.
-  in-quarters : m ≡ 4 * (r / 2 * (m / (2 * r))) + 2 * (r / 2)
+  pub in-quarters : m ≡ 4 * (r / 2 * (m / (2 * r))) + 2 * (r / 2)
   in-quarters =
       let q = m / (2 * r) in
       let e : 2 * r * q ≡ (r / 2 + r / 2 + (r / 2 + r / 2)) * q = ap (λ x. x * q) (omega (arith, twice-h)) in

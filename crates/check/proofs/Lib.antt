@@ -1,0 +1,6 @@
+pub mod Walks
+pub mod Verdicts
+pub mod Promises
+pub mod Around
+pub mod Relations
+pub mod Judging

@@ -1,0 +1,4 @@
+pub mod Halving
+pub mod Promise
+pub mod Relation
+pub mod Judging

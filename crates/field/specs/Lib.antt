@@ -1,0 +1,5 @@
+pub mod Meaning
+pub mod Layers
+pub mod Bounds
+pub mod Joining
+pub mod Opposing
