@@ -19,7 +19,7 @@ use Rattle.leg.specs.Places.{OnLeg}
 use Rattle.leg.proofs.Halving.{width-limit}
 use Rattle.affine.specs.declared.Form.{Form}
 use Rattle.affine.specs.Fits.{LowFits, LesserFits, GreaterFits, OppositeFits, EndsWithin}
-use Rattle.affine.proofs.Fitting.{ends-bounded, low-fits, lesser-fits, greater-fits, opposite-fits}
+use Rattle.affine.proofs.Fitting.{ends-bounded, ends-fit, lesser-fits, greater-fits, opposite-fits}
 use Rattle.field.specs.Meaning.{Meaning, Laws, reachLimit}
 use Rattle.field.specs.Bounds.{at-middle, spread}
 
@@ -76,7 +76,7 @@ module _ (field : Meaning) (laws : Laws field) (leg : Leg) where
     -- ---- what the operations on a bound ask, of the form that was answered
 
     pub bound-low-fits : {u : Form} → u ≡ field .bound leg m r → LowFits u
-    bound-low-fits e = subst LowFits (sym e) (low-fits endLimit (field .bound leg m r) ends-within tt)
+    bound-low-fits e = subst LowFits (sym e) (ends-fit endLimit (field .bound leg m r) ends-within tt .low)
 
     pub bound-opposite-fits : {u : Form} → u ≡ field .bound leg m r → OppositeFits u
     bound-opposite-fits e = subst OppositeFits (sym e) (opposite-fits (ends-bounded endLimit (field .bound leg m r) ends-within) tt)
