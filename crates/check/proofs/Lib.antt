@@ -4,3 +4,4 @@ pub mod Promises
 pub mod Around
 pub mod Relations
 pub mod Judging
+pub mod Counting

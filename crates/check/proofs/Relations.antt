@@ -29,26 +29,26 @@ use Rattle.check.proofs.Promises.{from-test, from-failed, not-both}
 
 -- The halves of a piece by level.
 module _ (n m : ℕ) (piece : IsPiece m (2 ^ suc n)) where
-  half-width : 2 ^ suc n / 2 ≡ 2 ^ n
+  pub half-width : 2 ^ suc n / 2 ≡ 2 ^ n
   half-width = omega (arith, two-pow-succ n)
 
-  fits : 2 ^ suc n ≤ m
+  pub fits : 2 ^ suc n ≤ m
   fits = omega (arith, mod-le m (2 * 2 ^ suc n), piece .2)
 
-  first-piece : IsPiece (m - 2 ^ n) (2 ^ n)
+  pub first-piece : IsPiece (m - 2 ^ n) (2 ^ n)
   first-piece = subst (λ h. IsPiece (m - h) h) half-width (first-half m (2 ^ suc n) piece (omega (arith, two-pow-succ n, pow-pos n)))
 
-  second-piece : IsPiece (m + 2 ^ n) (2 ^ n)
+  pub second-piece : IsPiece (m + 2 ^ n) (2 ^ n)
   second-piece = subst (λ h. IsPiece (m + h) h) half-width (second-half m (2 ^ suc n) piece (omega (arith, two-pow-succ n, pow-pos n)))
 
   -- The middle of a piece that is not finest is even.
-  even-middle : m ≡ m / 2 + m / 2
+  pub even-middle : m ≡ m / 2 + m / 2
   even-middle = omega (arith, in-quarters m (2 ^ suc n) piece (omega (arith, two-pow-succ n, pow-pos n)))
 
-abbrev one-if : Bool → ℕ
+abbrev pub one-if : Bool → ℕ
 one-if passes = cond passes 1 0
 
-none-pass : (t : ℕ → ℕ → Bool) (n m : ℕ) → 2 ^ n ≤ m → ((i x : ℕ) → i ≤ n → Contains m (2 ^ n) x (2 ^ i) → t x (2 ^ i) ≡ false) → passing t n m ≡ 0
+pub none-pass : (t : ℕ → ℕ → Bool) (n m : ℕ) → 2 ^ n ≤ m → ((i x : ℕ) → i ≤ n → Contains m (2 ^ n) x (2 ^ i) → t x (2 ^ i) ≡ false) → passing t n m ≡ 0
 none-pass t zero m fits none = ap one-if (none 0 m (omega arith) (omega arith, omega arith))
 none-pass t (suc n) m fits none =
     let twice = two-pow-succ n in
@@ -306,6 +306,7 @@ module _ (field : Meaning) (leg : Leg) where
             (λ m r piece. ((λ e. tells-to (clears field leg) 4096 m r piece .0 e .0), (λ h. tells-to (clears field leg) 4096 m r piece .1 (h, omega (arith, piece .3)))))
             (sym (p .1 4096 (omega arith))),
       );
+      only-clear = λ _ _. refl;
       named = λ e. absurd (omega arith);
       entered = λ k d e. absurd (omega arith);
       near = λ k d e. absurd (omega arith);
@@ -320,6 +321,7 @@ module _ (field : Meaning) (leg : Leg) where
                 inside = λ h. not-both _ h outside;
                 only-inside = λ d. absurd (omega arith);
                 clear = λ d. absurd (omega arith);
+                only-clear = λ _ all. absurd (stopped-first s b p .uncovered (all ((s - 1) / 2) (stopped-first s b p .finest)));
                 named = λ _. ((s - 1) / 2, refl, stopped-first s b p, stopped-count s b p);
                 entered = λ k d i. absurd (omega arith);
                 near = λ k d _. subst (λ (x : ℕ). pos 0 <ℤ field .value leg (pos x) (pos 1)) (finish ∙ ap (λ (x : ℕ). 2 * x + 2) (ap natAbs d)) (from-test (field .value leg (pos (s + 1)) (pos 1)) e);
@@ -331,6 +333,7 @@ module _ (field : Meaning) (leg : Leg) where
                 inside = λ h. not-both _ h outside;
                 only-inside = λ d. absurd (omega arith);
                 clear = λ d. absurd (omega arith);
+                only-clear = λ _ all. absurd (stopped-first s b p .uncovered (all ((s - 1) / 2) (stopped-first s b p .finest)));
                 named = λ _. ((s - 1) / 2, refl, stopped-first s b p, stopped-count s b p);
                 entered = λ k d _. subst (λ (x : ℕ). field .value leg (pos x) (pos 1) ≤ℤ pos 0) (finish ∙ ap (λ (x : ℕ). 2 * x + 2) (ap natAbs d)) (from-failed (field .value leg (pos (s + 1)) (pos 1)) e);
                 near = λ k d i. absurd (omega arith);
@@ -351,6 +354,7 @@ module _ (field : Meaning) (leg : Leg) where
               inside = λ _. (refl, refl, refl);
               only-inside = λ _. from-failed (field .value leg (pos 0) (pos 1)) e;
               clear = λ d. absurd (omega arith);
+              only-clear = λ outside _. not-both _ (from-failed (field .value leg (pos 0) (pos 1)) e) outside;
               named = λ d. absurd (omega arith);
               entered = λ k d i. absurd (omega arith);
               near = λ k d i. absurd (omega arith);

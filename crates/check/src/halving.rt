@@ -5,10 +5,12 @@ ghost use lib.IntN.{pos};
 ghost use lib.Signed.{ltZ};
 ghost use Rattle.std.specs.Results.{Cases};
 ghost use Rattle.refusal.specs.Numbers.{numberOf};
+ghost use mathlib.Core.Bool.{true};
+ghost use Rattle.leg.specs.Ranges.{IsPiece};
 ghost use Rattle.leg.specs.Making.{legRefusal};
 ghost use Rattle.check.specs.Halving.{clears, boundsOf, counted, examineOf, checkOf};
 ghost use Rattle.check.specs.Promise.{Promise, rowOf};
-ghost use Rattle.check.specs.Relation.{Relation};
+ghost use Rattle.check.specs.Relation.{Relation, passing, only};
 ghost use Rattle.check.specs.Judging.{Judged};
 use crate::verdict::Verdict;
 use crate::verdict::Walk;
@@ -113,4 +115,12 @@ pub fn check<F: Field>(
 {
     let leg = Leg::new(x1, y1, z1, x2, y2, z2)?;
     Ok(judge(field, &leg))
+}
+
+// The most bounds that a check can take: one for each piece of a leg, of which a count leaves out none and takes none twice.
+pub fn most_bounds() -> u16
+    ensures all { λ r. ⌜ r ≡ passing (λ _ _. true) 11 2048 ⌝ }
+    ensures once { λ _. ⌜ ((x s : ℕ) → IsPiece x s → passing (only x s) 11 2048 ≡ 1) ⌝ }
+{
+    4095
 }

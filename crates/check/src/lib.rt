@@ -3,6 +3,7 @@ mod halving;
 mod verdict;
 
 pub use halving::check;
+pub use halving::most_bounds;
 pub use verdict::Verdict;
 pub use verdict::VerdictDebug;
 pub use verdict::VerdictEq;
