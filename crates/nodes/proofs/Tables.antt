@@ -124,3 +124,24 @@ module _ (nodes : List Node) (formed : WellFormed nodes) where
     -- then each node's results are related
     pub related-results : (i : ℕ) → i < length nodes → R (resultOf al nodes i) (resultOf bl nodes i)
     related-results i i< = related-below (suc i) i (omega arith) i<
+
+-- ---- a map from one algebra to another
+
+-- f carries each operation of the one to that of the other
+pub record Homomorphism {A B : Type 0} (al : Algebra A) (bl : Algebra B) (f : A → B) : Type 0 where
+  pub quadric : (node : Node) → f (al .quadric node) ≡ bl .quadric node
+  pub sum : (x y : A) → f (al .sum x y) ≡ bl .sum (f x) (f y)
+  pub lesser : (x y : A) → f (al .lesser x y) ≡ bl .lesser (f x) (f y)
+  pub greater : (x y : A) → f (al .greater x y) ≡ bl .greater (f x) (f y)
+  pub opposite : (x : A) → f (al .opposite x) ≡ bl .opposite (f x)
+
+pub mapped-results : (nodes : List Node) → WellFormed nodes → {A B : Type 0} (al : Algebra A) (bl : Algebra B) (f : A → B) → Homomorphism al bl f → (i : ℕ) → i < length nodes → f (resultOf al nodes i) ≡ resultOf bl nodes i
+mapped-results nodes formed {B} al bl f h =
+    related-results nodes formed al bl (λ x (y : B). f x ≡ y)
+    (record {
+      quadric = λ node _. h .quadric node;
+      sum = λ x y _ _ e g. h .sum x y ∙ ap₂ (bl .sum) e g;
+      lesser = λ x y _ _ e g. h .lesser x y ∙ ap₂ (bl .lesser) e g;
+      greater = λ x y _ _ e g. h .greater x y ∙ ap₂ (bl .greater) e g;
+      opposite = λ x _ e. h .opposite x ∙ ap (bl .opposite) e;
+    })
