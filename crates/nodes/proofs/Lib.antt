@@ -6,3 +6,6 @@ pub mod Lawful
 pub mod Combining
 pub mod Quadrics
 pub mod Every
+pub mod WholeCode
+pub mod Ends
+pub mod WholeNumbers
