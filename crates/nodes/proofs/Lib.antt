@@ -9,3 +9,5 @@ pub mod Every
 pub mod WholeCode
 pub mod Ends
 pub mod WholeNumbers
+pub mod Bounds
+pub mod AffineForms

@@ -1,6 +1,6 @@
 // Affine forms on a piece.
 ghost use mathlib.Core.Path.{_≡_};
-ghost use lib.IntN.{ℤ, pos, negℤ, _*ℤ_};
+ghost use lib.IntN.{ℤ, pos, negsuc, _*ℤ_};
 ghost use Rattle.integer.specs.Numbers.{Within};
 ghost use Rattle.affine.specs.Forms.{sumOf, lesserOf, greaterOf, oppositeOf, shiftedBy};
 ghost use Rattle.affine.specs.Fits.{Bounded};
@@ -41,17 +41,17 @@ fn square(d: Form) -> Form
 // The coordinate from the centre's, `p`, on.
 fn offset(x: Form, p: i64) -> Form
     requires { ⌜ Bounded 16777216 x ⌝ ∗ ⌜ Within p (pos 4096) ⌝ }
-    ensures value { λ r. ⌜ r ≡ shiftedBy (negℤ (pos 4096 *ℤ p)) x ⌝ }
+    ensures value { λ r. ⌜ r ≡ shiftedBy (negsuc 4095 *ℤ p) x ⌝ }
     ensures bounded { λ r. ⌜ Bounded 33554432 r ⌝ }
 {
-    x.shifted(-(4096 * p))
+    x.shifted(-4096 * p)
 }
 
 // s D² + 4096 l D, where D is the coordinate `x` from the centre's, `p`, on.
 fn axis(x: Form, p: i64, s: i64, l: i64) -> Form
     requires { ⌜ Bounded 16777216 x ⌝ ∗ ⌜ Within p (pos 4096) ⌝ ∗ ⌜ Within s (pos 16) ⌝ ∗ ⌜ Within l (pos 4096) ⌝ }
     ensures value { λ r. ⌜ r ≡ affineAxis x p s l ⌝ }
-    ensures bounded { λ r. ⌜ Bounded 108649340010313216 r ⌝ }
+    ensures bounded { λ r. ⌜ Bounded 108649341010313216 r ⌝ }
 {
     let d = offset(x, p);
     let bent = square(d).scaled(s);
