@@ -1,0 +1,9 @@
+pub mod Legs
+pub mod Lines
+pub mod Cells
+pub mod Places
+pub mod Steepness
+pub mod Reach
+pub mod CellForms
+pub mod Lawful
+pub mod Worked

@@ -1,0 +1,3 @@
+pub mod Surface
+pub mod Terrain
+pub mod Meaning

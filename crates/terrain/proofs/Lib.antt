@@ -1,0 +1,9 @@
+pub mod Running
+pub mod Corners
+pub mod Coordinates
+pub mod Spots
+pub mod Ends
+pub mod Sizes
+pub mod Files
+pub mod Grounds
+pub mod Lattices
