@@ -32,7 +32,8 @@ fn cleared<F: Field>(field: &F, leg: &Leg, piece: Piece) -> bool
     requires { ⌜ lawful (now field) ⌝ }
     ensures { λ r. ⌜ r ≡ clears (meaning (now (field .entry))) (now (leg .entry)) (piece .middle) (piece .half) ⌝ }
 {
-    above_zero(field.bound(leg, piece).low())
+    let bound = field.bound(leg, piece);
+    above_zero(bound.low())
 }
 
 impl Walk {
@@ -46,8 +47,8 @@ impl Walk {
                 middle,
                 bounds: before + bounds + 1,
             },
-            Walk::Cleared { bounds } => Walk::Cleared {
-                bounds: before + bounds + 1,
+            Walk::Cleared { bounds: second } => Walk::Cleared {
+                bounds: before + second + 1,
             },
         }
     }

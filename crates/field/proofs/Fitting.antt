@@ -40,19 +40,17 @@ end-within v x s R w d h k =
 below-limit : (a R : ℤ) → pos 0 ≤ℤ a → (pos 2048 *ℤ a) ≤ℤ R → R ≤ℤ reachLimit → a ≤ℤ reachLimit
 below-limit a R h k l = omega (arith, ints)
 
-value-within : (v R : ℤ) → Within v (R *ℤ pos 1) → R ≤ℤ reachLimit → Within v (pos endLimit)
-value-within v R w k = let a = under w in let b = over w in within-from v (pos endLimit) (omega (arith, ints)) (omega (arith, ints))
+in-limit : (v R : ℤ) → Within v (R *ℤ pos 1) → R ≤ℤ reachLimit → Within v reachLimit
+in-limit v R w k = let a = under w in let b = over w in within-from v reachLimit (omega (arith, ints)) (omega (arith, ints))
 
 module _ (field : Meaning) (laws : Laws field) (leg : Leg) where
   pub steepness-in-limit : field .steepness leg ≤ℤ reachLimit
   steepness-in-limit = below-limit (field .steepness leg) (field .reach) (laws .steepness≥0 leg) (laws .steepness-in-reach leg) (laws .reach-in-limit)
 
-  -- a value at a half-step
-  pub value-fits : (s : ℕ) → s ≤ 4096 → SFits w64 (field .value leg (pos s) (pos 1))
-  value-fits s h = within-fits (step-within s h) tt
-    where
-      step-within : (s : ℕ) → s ≤ 4096 → Within (field .value leg (pos s) (pos 1)) (pos endLimit)
-      step-within s h = value-within (field .value leg (pos s) (pos 1)) (field .reach) (laws .in-reach leg (pos s) (pos 1) (step-on-leg s h)) (laws .reach-in-limit)
+  -- a value at a half-step, as it was answered and passed on
+  pub value-within : (s : ℕ) → s ≤ 4096 → {x : ℤ} → mag x < 9223372036854775808 → x ≡ field .value leg (pos s) (pos 1) → Within (stored x) reachLimit
+  value-within s h ok e =
+      subst (λ (v : ℤ). Within v reachLimit) (sym (kept ok ∙ e)) (in-limit (field .value leg (pos s) (pos 1)) (field .reach) (laws .in-reach leg (pos s) (pos 1) (step-on-leg s h)) (laws .reach-in-limit))
 
   module _ (m r : ℕ) (piece : IsPiece m r) where
     width-in-reach : (field .steepness leg *ℤ pos r) ≤ℤ field .reach
@@ -112,13 +110,3 @@ module _ (k : ℕ) (small : k ≤ 2048) {x y z a b : ℤ} (okx : mag x < 9223372
 
   pub larger-value : stored (stored z +ℤ pos k) ≡ maxZ a b +ℤ pos k
   larger-value = stored-is (ap (λ (w : ℤ). w +ℤ pos k) larger-is) sum-fits
-
--- the opposite of an answer
-pub opposite-answer : {x v : ℤ} → mag x < 9223372036854775808 → x ≡ v → SFits w64 (negℤ v) → record { fits : SFits w64 (pos 0 -ℤ stored x); value : stored (pos 0 -ℤ stored x) ≡ negℤ v }
-opposite-answer {x} {v} ok e f = record { fits = fits-is same f; value = stored-is same f }
-  where
-    minus : (w : ℤ) → pos 0 -ℤ w ≡ negℤ w
-    minus w = omega (arith, ints)
-
-    same : pos 0 -ℤ stored x ≡ negℤ v
-    same = ap (λ (w : ℤ). pos 0 -ℤ w) (kept ok ∙ e) ∙ minus v

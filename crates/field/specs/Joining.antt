@@ -23,8 +23,8 @@ use Rattle.field.specs.Meaning.{Meaning, Laws}
 use Rattle.field.specs.Layers.{joined, unionOf, commonOf, InLimit}
 use Rattle.field.specs.Bounds.{at-middle, spread, under-high}
 
--- what joining takes from the lesser and the greater of two numbers and of two forms
-record Joins (pick : ℤ → ℤ → ℤ) (join : Form → Form → Form) : Type 0 where
+-- what joining takes from a choice between two numbers and the like between two forms
+record Picks (pick : ℤ → ℤ → ℤ) (join : Form → Form → Form) : Type 0 where
   within : (a b s : ℤ) → Within a s → Within b s → Within (pick a b) s
   scaled : (a b k : ℤ) → pos 0 ≤ℤ k → pick a b *ℤ k ≡ pick (a *ℤ k) (b *ℤ k)
   near : (a b c d s : ℤ) → Within (a -ℤ c) s → Within (b -ℤ d) s → Within (pick a b -ℤ pick c d) s
@@ -32,7 +32,7 @@ record Joins (pick : ℤ → ℤ → ℤ) (join : Form → Form → Form) : Type
   high : (u v : Form) → pos 0 ≤ℤ u .u2 → pos 0 ≤ℤ v .u2 → highEnd (join u v) ≤ℤ (pick (highEnd u) (highEnd v) +ℤ pos 1)
   holds : (m r p q : ℤ) → OnPiece m r p q → (u v : Form) (n k d : ℤ) → Holds m r p q u n d → Holds m r p q v k d → Holds m r p q (join u v) (pick n k) d
 
--- ---- of two fields that join so
+-- ---- two fields joined by such a choice
 
 -- a bound by either of two numbers is one by the larger and more
 by-first : (a b e k : ℤ) → pos 0 ≤ℤ e → pos 0 ≤ℤ k → (a *ℤ k) ≤ℤ ((maxZ a b +ℤ e) *ℤ k)
@@ -78,7 +78,10 @@ max-scaled a b k some =
     (λ h. let order : a ≤ℤ b = omega (arith, ints) in ap (λ (x : ℤ). x *ℤ k) (max-is-second order) ∙ sym (max-is-second (times-right≤ some order)))
     (λ order. ap (λ (x : ℤ). x *ℤ k) (max-is-first order) ∙ sym (max-is-first (times-right≤ some order)))
 
-module _ (pick : ℤ → ℤ → ℤ) (join : Form → Form → Form) (c : Joins pick join) (f g : Meaning) (F : Laws f) (G : Laws g) where
+module _ (pick : ℤ → ℤ → ℤ) (join : Form → Form → Form) (c : Picks pick join) (f g : Meaning) (F : Laws f) (G : Laws g) where
+  abbrev both : Meaning
+  both = joined pick join f g
+
   module _ (leg : Leg) (m r : ℕ) (piece : IsPiece m r) where
     first-spread : pos 0 ≤ℤ f .bound leg m r .u2
     first-spread = spread m r piece (f .bound leg m r) (f .value leg (pos m) (pos 1)) (F .holds leg m r piece (pos m) (pos 1) (at-middle m r piece))
@@ -86,34 +89,35 @@ module _ (pick : ℤ → ℤ → ℤ) (join : Form → Form → Form) (c : Joins
     second-spread : pos 0 ≤ℤ g .bound leg m r .u2
     second-spread = spread m r piece (g .bound leg m r) (g .value leg (pos m) (pos 1)) (G .holds leg m r piece (pos m) (pos 1) (at-middle m r piece))
 
-    joined-holds : (p q : ℤ) → OnPiece (pos m) (pos r) p q → Holds (pos m) (pos r) p q (join (f .bound leg m r) (g .bound leg m r)) (pick (f .value leg p q) (g .value leg p q)) (q *ℤ q)
+    joined-holds : (p q : ℤ) → OnPiece (pos m) (pos r) p q → Holds (pos m) (pos r) p q (both .bound leg m r) (both .value leg p q) (q *ℤ q)
     joined-holds p q on =
         c .holds (pos m) (pos r) p q on (f .bound leg m r) (g .bound leg m r) (f .value leg p q) (g .value leg p q) (q *ℤ q)
         (F .holds leg m r piece p q on) (G .holds leg m r piece p q on)
 
-    -- the ends of both, from the values at the middle
-    both-near : (e : ℤ) → pos 0 ≤ℤ e → (x y : ℤ) → Within (x -ℤ f .value leg (pos m) (pos 1)) (f .steepness leg *ℤ pos r) → Within (y -ℤ g .value leg (pos m) (pos 1)) (g .steepness leg *ℤ pos r) → Within (pick x y -ℤ pick (f .value leg (pos m) (pos 1)) (g .value leg (pos m) (pos 1))) ((maxZ (f .steepness leg) (g .steepness leg) +ℤ e) *ℤ pos r)
-    both-near e e≥0 x y v w =
+    -- what is picked of two ends is as near to the value as the farther of the two
+    picked-near : (e x y : ℤ) → pos 0 ≤ℤ e → Within (x -ℤ f .value leg (pos m) (pos 1)) (f .steepness leg *ℤ pos r) → Within (y -ℤ g .value leg (pos m) (pos 1)) (g .steepness leg *ℤ pos r) →
+        Within (pick x y -ℤ both .value leg (pos m) (pos 1)) ((maxZ (f .steepness leg) (g .steepness leg) +ℤ e) *ℤ pos r)
+    picked-near e x y e≥0 v w =
         c .near _ _ _ _ _
         (within-wider v (by-first (f .steepness leg) (g .steepness leg) e (pos r) e≥0 (natural≥0 r)))
         (within-wider w (by-second (f .steepness leg) (g .steepness leg) e (pos r) e≥0 (natural≥0 r)))
 
-    joined-low : Within (lowEnd (join (f .bound leg m r) (g .bound leg m r)) -ℤ pick (f .value leg (pos m) (pos 1)) (g .value leg (pos m) (pos 1))) ((maxZ (f .steepness leg) (g .steepness leg) +ℤ pos 1) *ℤ pos r)
+    joined-low : Within (lowEnd (both .bound leg m r) -ℤ both .value leg (pos m) (pos 1)) (both .steepness leg *ℤ pos r)
     joined-low =
-        within-same (both-near (pos 1) (record { le = tt }) _ _ (F .low-near leg m r piece) (G .low-near leg m r piece))
-        (ap (λ (x : ℤ). x -ℤ pick (f .value leg (pos m) (pos 1)) (g .value leg (pos m) (pos 1))) (sym (c .low (f .bound leg m r) (g .bound leg m r) first-spread second-spread))) refl
+        within-same (picked-near (pos 1) _ _ (record { le = tt }) (F .low-near leg m r piece) (G .low-near leg m r piece))
+        (ap (λ (x : ℤ). x -ℤ both .value leg (pos m) (pos 1)) (sym (c .low (f .bound leg m r) (g .bound leg m r) first-spread second-spread))) refl
 
-    joined-high : Within (highEnd (join (f .bound leg m r) (g .bound leg m r)) -ℤ pick (f .value leg (pos m) (pos 1)) (g .value leg (pos m) (pos 1))) ((maxZ (f .steepness leg) (g .steepness leg) +ℤ pos 1) *ℤ pos r)
+    joined-high : Within (highEnd (both .bound leg m r) -ℤ both .value leg (pos m) (pos 1)) (both .steepness leg *ℤ pos r)
     joined-high =
         within-same
-        (near-high (pick (f .value leg (pos m) (pos 1)) (g .value leg (pos m) (pos 1))) (highEnd (join (f .bound leg m r) (g .bound leg m r))) (pick (highEnd (f .bound leg m r)) (highEnd (g .bound leg m r))) ((maxZ (f .steepness leg) (g .steepness leg) +ℤ pos 0) *ℤ pos r) (pos r)
+        (near-high (both .value leg (pos m) (pos 1)) (highEnd (both .bound leg m r)) (pick (highEnd (f .bound leg m r)) (highEnd (g .bound leg m r))) ((maxZ (f .steepness leg) (g .steepness leg) +ℤ pos 0) *ℤ pos r) (pos r)
         (at-middle m r piece .wide)
-        (under-high m r piece (join (f .bound leg m r) (g .bound leg m r)) (pick (f .value leg (pos m) (pos 1)) (g .value leg (pos m) (pos 1))) (joined-holds (pos m) (pos 1) (at-middle m r piece)))
+        (under-high m r piece (both .bound leg m r) (both .value leg (pos m) (pos 1)) (joined-holds (pos m) (pos 1) (at-middle m r piece)))
         (c .high (f .bound leg m r) (g .bound leg m r) first-spread second-spread)
-        (both-near (pos 0) (record { le = tt }) _ _ (F .high-near leg m r piece) (G .high-near leg m r piece)))
+        (picked-near (pos 0) _ _ (record { le = tt }) (F .high-near leg m r piece) (G .high-near leg m r piece)))
         refl (one-more (maxZ (f .steepness leg) (g .steepness leg)) (pos r))
 
-  joined-laws : InLimit (joined pick join f g) → Laws (joined pick join f g)
+  joined-laws : InLimit both → Laws both
   joined-laws limit = record {
     same-fraction = λ leg p q p′ q′ at at′ same.
         c .scaled (f .value leg p q) (g .value leg p q) (q′ *ℤ q′) (square≥0 (at′ .parts))
@@ -126,15 +130,15 @@ module _ (pick : ℤ → ℤ → ℤ) (join : Form → Form → Form) (c : Joins
     steepness≥0 = λ leg. larger≥0 (f .steepness leg) (g .steepness leg) (F .steepness≥0 leg);
     steepness-in-reach = λ leg. steepness-fits (f .steepness leg) (g .steepness leg) (f .reach) (g .reach) (F .steepness-in-reach leg) (G .steepness-in-reach leg);
     reach-in-limit = limit;
-    holds = λ leg m r piece. joined-holds leg m r piece;
-    low-near = λ leg m r piece. joined-low leg m r piece;
-    high-near = λ leg m r piece. joined-high leg m r piece;
+    holds = joined-holds;
+    low-near = joined-low;
+    high-near = joined-high;
   }
 
--- ---- the lesser and the greater join so
+-- ---- the lesser and the greater are such choices
 
-lesser-joins : Joins minZ lesserOf
-lesser-joins = record {
+lesser-picks : Picks minZ lesserOf
+lesser-picks = record {
   within = λ a b s v w. min-has a b (λ (x : ℤ). Within x s) v w;
   scaled = min-scaled;
   near = λ a b c d s v w. let i = under v in let j = over v in let k = under w in let l = over w in within-from (minZ a b -ℤ minZ c d) s (omega (arith, ints, clamps)) (omega (arith, ints, clamps));
@@ -143,8 +147,8 @@ lesser-joins = record {
   holds = λ m r p q on u v n k d h l. lesser-holds m r p q on u v n k d h l;
 }
 
-greater-joins : Joins maxZ greaterOf
-greater-joins = record {
+greater-picks : Picks maxZ greaterOf
+greater-picks = record {
   within = λ a b s v w. max-has a b (λ (x : ℤ). Within x s) v w;
   scaled = max-scaled;
   near = λ a b c d s v w. let i = under v in let j = over v in let k = under w in let l = over w in within-from (maxZ a b -ℤ maxZ c d) s (omega (arith, ints, clamps)) (omega (arith, ints, clamps));
@@ -154,7 +158,7 @@ greater-joins = record {
 }
 
 pub union-laws : (f g : Meaning) → Laws f → Laws g → InLimit (unionOf f g) → Laws (unionOf f g)
-union-laws f g F G limit = joined-laws minZ lesserOf lesser-joins f g F G limit
+union-laws f g F G limit = joined-laws minZ lesserOf lesser-picks f g F G limit
 
 pub common-laws : (f g : Meaning) → Laws f → Laws g → InLimit (commonOf f g) → Laws (commonOf f g)
-common-laws f g F G limit = joined-laws maxZ greaterOf greater-joins f g F G limit
+common-laws f g F G limit = joined-laws maxZ greaterOf greater-picks f g F G limit

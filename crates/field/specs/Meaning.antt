@@ -11,8 +11,9 @@ use Rattle.affine.specs.declared.Form.{Form}
 use Rattle.affine.specs.Forms.{lowEnd, highEnd}
 use Rattle.affine.specs.Holding.{Holds}
 
--- The four answers of a field, over every leg. The value at the place p, q of a leg is `value leg p q` divided by q². The steepness says how far the value can
--- change over one half-step. The bound on the piece of middle m and half-width r is the form `bound leg m r`. No value is above the reach in absolute value.
+-- The four answers of a field, over every leg. The value at the place p, q of a leg is `value leg p q` divided by q². The steepness bounds, for each half-step of
+-- a piece's half-width, how far the value is from that at the middle. The bound on the piece of middle m and half-width r is the form `bound leg m r`. No value is
+-- above the reach in absolute value.
 pub record Meaning : Type 0 where
   pub value : Leg → ℤ → ℤ → ℤ
   pub steepness : Leg → ℤ

@@ -23,7 +23,7 @@ pub trait Field {
         requires { ⌜ lawful (now self) ⌝ }
         ensures { λ r. ⌜ r ≡ meaning (now (self .entry)) .value (now (leg .entry)) (pos (step .at)) (pos 1) ⌝ };
 
-    // How far the value can change over one half-step of the leg.
+    // How far on a piece the value can be from that at the middle, for each half-step of the half-width.
     fn steepness(&self, leg: &Leg) -> i64
         requires { ⌜ lawful (now self) ⌝ }
         ensures { λ r. ⌜ r ≡ meaning (now (self .entry)) .steepness (now (leg .entry)) ⌝ };

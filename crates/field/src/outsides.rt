@@ -1,7 +1,10 @@
 // The outside of a field.
 ghost use mathlib.Core.Path.{_≡_};
 ghost use denote.Ref.{now};
+ghost use lib.IntN.{negℤ};
 ghost use Rattle.std.specs.Results.{Cases};
+ghost use Rattle.integer.specs.Numbers.{Within};
+ghost use Rattle.field.specs.Meaning.{reachLimit};
 ghost use Rattle.field.specs.Layers.{outsideOf, InLimit};
 ghost use Rattle.field.specs.Opposing.{outside-laws};
 use crate::field::Field;
@@ -34,6 +37,14 @@ impl<F: Field> Outside<F> {
     }
 }
 
+// A value of a lawful field, negated.
+fn opposite(value: i64) -> i64
+    requires { ⌜ Within value reachLimit ⌝ }
+    ensures { λ r. ⌜ r ≡ negℤ value ⌝ }
+{
+    -value
+}
+
 pub impl<F: Field> Field for Outside<F> as OutsideField {
     ghost meaning = { λ o. outsideOf (F·Field .meaning (o .part)) };
 
@@ -42,7 +53,7 @@ pub impl<F: Field> Field for Outside<F> as OutsideField {
     ghost laws = { λ o lawful. outside-laws (F·Field .meaning (o .part)) (F·Field .laws (o .part) lawful) };
 
     fn value(&self, leg: &Leg, step: HalfStep) -> i64 {
-        -self.part.value(leg, step)
+        opposite(self.part.value(leg, step))
     }
 
     fn steepness(&self, leg: &Leg) -> i64 {
