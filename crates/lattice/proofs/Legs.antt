@@ -1,5 +1,4 @@
 -- The ranges that a leg keeps to, as bounds.
-use Prim.Native.Nat.{ℕ}
 use lib.IntN.{ℤ, pos, negsuc}
 use lib.Signed.{_≤ℤ_}
 use Rattle.integer.specs.Numbers.{Within}

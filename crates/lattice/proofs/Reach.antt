@@ -7,7 +7,7 @@ use lib.IntN.{ℤ, pos, negsuc, natAbs, _-ℤ_, _*ℤ_}
 use lib.Signed.{_≤ℤ_}
 use borrow.Author.Differences.{ints}
 use Rattle.std.proofs.shelf.Tests.{cases-lt}
-use Rattle.integer.proofs.Absolute.{under, over, within-from, within-same, within-self, within-sum, within-product, within-neg, within-wider, abs-least, within-natural}
+use Rattle.integer.proofs.Absolute.{within-from, within-same, within-self, within-sum, within-product, within-neg, within-wider, abs-least, within-natural}
 use Rattle.integer.proofs.Order.{gap, sum≥0, product≥0, weaker, by-gap, natural≥0}
 use Rattle.integer.proofs.Ring.{ring, _:+_, _:-_, _:*_, con, _:=_}
 use Rattle.integer.specs.Numbers.{Within, absℤ}

@@ -1,12 +1,10 @@
 -- The Lipschitz law of terrain: the values at any two places of a leg differ by at most L times their distance in half-steps. So one fraction has one value.
 use mathlib.Core.Path.{_≡_, refl, sym, ap, ap₂, _∙_}
-use Prim.Native.Nat.{ℕ, suc}
-use native.Mathlib.Omega.{arith}
+use Prim.Native.Nat.{ℕ}
 use lib.Dec.{lit≤}
-use lib.IntN.{ℤ, pos, negsuc, negℤ, _+ℤ_, _-ℤ_, _*ℤ_}
+use lib.IntN.{ℤ, pos, negℤ, _+ℤ_, _-ℤ_, _*ℤ_}
 use lib.Signed.{_≤ℤ_}
-use borrow.Author.Differences.{ints}
-use Rattle.integer.proofs.Absolute.{under, over, within-same, within-self, within-abs, abs≥0, within-sum, within-product, within-neg, abs-neg, abs-product, within-wider, bound≥0}
+use Rattle.integer.proofs.Absolute.{over, within-same, within-self, within-abs, abs≥0, within-sum, within-product, within-neg, abs-product, within-wider, bound≥0}
 use Rattle.integer.proofs.Order.{sum≥0, product≥0, weaker, by-gap, natural≥0}
 use Rattle.integer.proofs.Ring.{ring, _:+_, _:-_, _:*_, con, neg, _:=_}
 use Rattle.integer.specs.Numbers.{Within, absℤ}

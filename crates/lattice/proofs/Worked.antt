@@ -1,12 +1,11 @@
 -- Level legs over flat ground.
-use mathlib.Core.Path.{_≡_, refl, sym, ap, ap₂, subst, _∙_}
+use mathlib.Core.Path.{_≡_, refl, sym, subst, _∙_}
 use Prim.Native.Nat.{ℕ, suc, _<_}
 use native.Mathlib.Omega.{arith}
 use lib.IntN.{ℤ, pos, _+ℤ_, _-ℤ_, _*ℤ_}
 use lib.Signed.{_≤ℤ_}
 use Rattle.integer.proofs.Ring.{ring, _:+_, _:-_, _:*_, con, _:=_}
 use Rattle.leg.specs.declared.shapes.Leg.{Leg}
-use Rattle.leg.specs.Places.{coordinate}
 use Rattle.lattice.specs.Terrain.{cellX, cellY, intoX, intoY, value}
 use Rattle.lattice.specs.Meaning.{WorkedTerrain}
 use Rattle.lattice.proofs.Places.{cell-on-lattice}

@@ -3,13 +3,13 @@
 -- place p, q of it lies p/q half-steps from its start. Every scaled number below is q times (q · q times: `surface`, `value`) what it stands for, so that all are whole.
 use mathlib.Core.Bool.{Bool, _&&_, cond}
 use Prim.Native.Nat.{ℕ, zero, suc, _/_, _<_, min, max}
-use lib.IntN.{ℤ, pos, negsuc, negℤ, natAbs, _+ℤ_, _-ℤ_, _*ℤ_}
+use lib.IntN.{ℤ, pos, negsuc, natAbs, _+ℤ_, _-ℤ_, _*ℤ_}
 use lib.Signed.{_≤ℤ_, leZ}
 use Rattle.leg.specs.declared.shapes.Leg.{Leg}
 use Rattle.leg.specs.Places.{coordinate}
 use Rattle.affine.specs.Forms.{sumOf, scaledBy, shiftedBy, oppositeOf, productOf}
 use Rattle.affine.specs.declared.Form.{Form}
-use Rattle.integer.specs.Numbers.{Within, absℤ}
+use Rattle.integer.specs.Numbers.{absℤ}
 use Rattle.lattice.specs.Surface.{into}
 
 -- each height of the lattice is from -16 to 300

@@ -1,16 +1,16 @@
 -- The running test of a loop, the row that a loop builds, and that a file's row fits where the file does.
 use mathlib.Core.Path.{_≡_, refl, sym, ap, ap₂, subst, _∙_}
-use mathlib.Core.Bool.{Bool, true, false, _&&_, cond}
+use mathlib.Core.Bool.{Bool, true, _&&_}
 use mathlib.Core.List.{List, [], _∷_, _++_}
 use mathlib.Core.Logic.{⊎-elim}
-use Prim.Native.Nat.{ℕ, zero, suc, _+_, _*_, _<_}
+use Prim.Native.Nat.{ℕ, zero, suc, _+_, _<_}
 use native.Mathlib.Omega.{arith}
 use lib.Dec.{eqb}
 use lib.IntN.{ℤ, pos}
 use lib.ListN.{length, getD}
-use Rattle.std.proofs.shelf.Tests.{and-parts, eqb-true, eq-eqb, cases-lt, cond-true}
+use Rattle.std.proofs.shelf.Tests.{eqb-true, eq-eqb, cases-lt, cond-true}
 use Rattle.terrain.specs.Rows.{inRange, every, rowRefusal, fileHeight, fileRefusal, listed, fileHeights}
-use Rattle.terrain.specs.Fitting.{both-pass, every-one}
+use Rattle.terrain.specs.Fitting.{both-pass}
 use Rattle.terrain.proofs.Running.{next}
 
 pub every-none : (t : ℕ → Bool) → true ≡ every 0 t

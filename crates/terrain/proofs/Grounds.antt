@@ -2,7 +2,7 @@
 use mathlib.Core.Path.{_≡_, refl, _∙_}
 use mathlib.Core.List.{List}
 use Prim.Native.Nat.{ℕ, suc}
-use lib.IntN.{ℤ, pos, _+ℤ_, _-ℤ_, _*ℤ_}
+use lib.IntN.{ℤ, pos, _+ℤ_, _*ℤ_}
 use Rattle.integer.proofs.Ring.{ring, _:+_, _:-_, _:*_, con, _:=_}
 use Rattle.affine.specs.declared.Form.{Form}
 use Rattle.affine.specs.Forms.{sumOf, scaledBy, shiftedBy, productOf}

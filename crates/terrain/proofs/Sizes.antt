@@ -1,5 +1,4 @@
 -- Bounds on the numbers of a form that an operation makes, from bounds on its arguments.
-use mathlib.Core.Path.{_≡_, subst}
 use Prim.Native.Nat.{ℕ, _+_, _*_, _≤_}
 use native.Mathlib.Omega.{arith}
 use lib.Dec.{T, leb, leb→le}
@@ -7,8 +6,7 @@ use lib.IntN.{ℤ, pos}
 use lib.Signed.{_≤ℤ_}
 use borrow.Author.Differences.{ints}
 use Rattle.integer.specs.Numbers.{Within}
-use Rattle.integer.proofs.Order.{natural≥0}
-use Rattle.integer.proofs.Absolute.{within-abs-self, within-neg, within-sum, within-product, within-self, within-wider}
+use Rattle.integer.proofs.Absolute.{within-abs-self, within-neg, within-sum, within-product, within-wider}
 use Rattle.affine.specs.declared.Form.{Form}
 use Rattle.affine.specs.Forms.{sumOf, scaledBy, shiftedBy, oppositeOf, productOf}
 use Rattle.affine.specs.Fits.{Bounded}

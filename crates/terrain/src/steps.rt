@@ -1,6 +1,6 @@
 // The largest difference of heights next to each other.
 ghost use mathlib.Core.Path.{_≡_};
-ghost use Prim.Native.Nat.{ℕ, _<_};
+ghost use Prim.Native.Nat.{_<_};
 ghost use lib.IntN.{natAbs, _-ℤ_};
 ghost use Rattle.lattice.specs.Terrain.{most, largestStep};
 ghost use Rattle.terrain.specs.Rows.{heightsOf, rowRefusal};

@@ -34,6 +34,12 @@ pub fn lattice_of(row: Vec<i16>) -> Result<Lattice, Refusal> {
     Ok(Lattice::new(row))
 }
 
+// The lattice of a file, or nothing where there is no memory for it.
+pub fn lattice_of_file(heap: Global, bytes: &[u8]) -> Result<Option<Lattice>, Refusal> {
+    Lattice::file_fits(bytes)?;
+    Ok(Lattice::from_file(heap, bytes).ok())
+}
+
 pub fn value_at(lattice: &Lattice, leg: &Leg, step: i64) -> Result<i64, Refusal> {
     Ok(lattice.value(leg, HalfStep::new(step)?))
 }
@@ -92,6 +98,14 @@ mod tests {
             Lattice::file_fits(long.as_slice()),
             Err(Refusal::LatticeSize),
         )
+    }
+
+    #[test]
+    fn level_over_a_file_of_10(rt: LibcRuntime) -> Result<(), Fail> {
+        let bytes = flat_file(rt.alloc(), 0, 10)?;
+        let lattice = lattice_of_file(rt.alloc(), bytes.as_slice())?.ok_or("no memory")?;
+        let above = Leg::new(4096, 4096, 11, -4096, -4096, 11)?;
+        check_eq(value_at(&lattice, &above, 4096)?, 1 << 36)
     }
 
     #[test]

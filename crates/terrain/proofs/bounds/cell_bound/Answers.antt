@@ -19,7 +19,7 @@ use Rattle.terrain.proofs.Spots.{index-is, into-is}
 use Rattle.terrain.proofs.Ends.{middle-is, half-is, middle-on-leg, stored-middle-on-leg, below-128}
 use Rattle.terrain.proofs.Grounds.{ground-form-is}
 use Rattle.terrain.proofs.Lattices.{level-is}
-use Rattle.terrain.proofs.Sizes.{bounded-wider, bounded-scaled, bounded-opposite}
+use Rattle.terrain.proofs.Sizes.{bounded-scaled, bounded-opposite}
 use Rattle.terrain.proofs.bounds.cell_bound.Needs as need
 
 bounded-by : {k : ℕ} {u v : Form} → u ≡ v → Bounded k v → Bounded k u

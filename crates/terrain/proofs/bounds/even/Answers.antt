@@ -1,6 +1,5 @@
-use mathlib.Core.Path.{_≡_, _∙_}
 use lib.IntN.{pos}
-use Rattle.integer.proofs.Machine.{fits, within, is, is-by, is-numeral, is-stored, is-difference, is-product}
+use Rattle.integer.proofs.Machine.{within, is, is-by, is-numeral, is-stored, is-difference, is-product}
 use Rattle.terrain.proofs.bounds.even.Needs as need
 
 pub mul-requires : need.mul-requires

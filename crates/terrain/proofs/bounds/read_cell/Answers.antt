@@ -1,5 +1,4 @@
 use Prim.Native.Nat.{suc}
-use lib.IntN.{_+ℤ_, _-ℤ_}
 use Rattle.integer.proofs.Machine.{Is, stored, fits, within, is-stored, is-sum, is-difference}
 use Rattle.terrain.specs.Rows.{heightsOf}
 use Rattle.terrain.proofs.Corners.{here, east-of, north-of, across-from}

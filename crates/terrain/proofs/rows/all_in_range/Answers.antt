@@ -4,7 +4,7 @@ use borrow.Author.Needs.{needs}
 use native.Mathlib.Omega.{arith}
 use lib.IntN.{pos}
 use lib.ListN.{getD}
-use Rattle.terrain.specs.Rows.{inRange, every, fileHeight}
+use Rattle.terrain.specs.Rows.{inRange, every}
 use Rattle.terrain.proofs.Files.{every-none, every-more}
 use Rattle.terrain.proofs.rows.all_in_range.Needs as need
 

@@ -2,7 +2,7 @@ use mathlib.Core.Path.{_≡_}
 use Prim.Native.Nat.{ℕ}
 use lib.IntN.{pos}
 use lib.ListN.{getD}
-use Rattle.terrain.specs.Rows.{inRange, every, fileHeight}
+use Rattle.terrain.specs.Rows.{inRange, every}
 use Rattle.terrain.proofs.rows.all_in_range.Given as given
 
 abbrev pub Inv-loop-k : given.InvT-loop-k

@@ -1,7 +1,5 @@
 use mathlib.Core.Path.{_≡_}
 use Prim.Native.Nat.{ℕ}
-use lib.IntN.{pos}
-use lib.ListN.{getD}
 use Rattle.terrain.specs.Rows.{inRange, every, fileHeight}
 use Rattle.terrain.proofs.rows.file_in_range.Given as given
 

@@ -1,6 +1,6 @@
 use mathlib.Core.Path.{_≡_, sym, subst, _∙_}
 use mathlib.Core.List.{List}
-use lib.IntN.{ℤ, pos}
+use lib.IntN.{ℤ}
 use Rattle.std.specs.Of.Vec.{vec-items}
 use Rattle.integer.proofs.Machine.{within}
 use Rattle.lattice.specs.Terrain.{bound}
