@@ -54,7 +54,7 @@ impl Walk {
     }
 }
 
-// The first half of an uncleared piece, and then the second unless the first stopped the walk.
+// A piece that its bound clears is done. Of any other the first half is examined, and then the second unless the first stopped the walk; a finest one stops it.
 fn examine<F: Field>(field: &F, leg: &Leg, piece: Piece) -> Walk
     requires { ⌜ lawful (now field) ⌝ }
     ensures { λ r. ⌜ ((n : ℕ) → piece .half ≡ 2 ^ n → r ≡ examineOf (meaning (now (field .entry))) (now (leg .entry)) n (piece .middle)) ⌝ }
@@ -78,7 +78,7 @@ fn examine<F: Field>(field: &F, leg: &Leg, piece: Piece) -> Walk
     }
 }
 
-// Inside at its start, or as its pieces decide.
+// Inside if the start is, and else as the walk over the whole leg ends.
 fn judge<F: Field>(field: &F, leg: &Leg) -> Verdict
     requires { ⌜ lawful (now field) ⌝ }
     ensures exact { λ v. ⌜ v ≡ checkOf (meaning (now (field .entry))) (now (leg .entry)) ⌝ }
