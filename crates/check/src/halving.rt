@@ -57,7 +57,8 @@ impl Walk {
 // A piece that its bound clears is done. Of any other the first half is examined, and then the second unless the first stopped the walk; a finest one stops it.
 fn examine<F: Field>(field: &F, leg: &Leg, piece: Piece) -> Walk
     requires { ⌜ lawful (now field) ⌝ }
-    ensures { λ r. ⌜ ((n : ℕ) → piece .half ≡ 2 ^ n → r ≡ examineOf (meaning (now (field .entry))) (now (leg .entry)) n (piece .middle)) ⌝ }
+    ensures exact { λ r. ⌜ ((n : ℕ) → piece .half ≡ 2 ^ n → r ≡ examineOf (meaning (now (field .entry))) (now (leg .entry)) n (piece .middle)) ⌝ }
+    ensures few { λ r. ⌜ boundsOf r < 4096 ⌝ }
 {
     if cleared(field, leg, piece) {
         return Walk::Cleared { bounds: 1 };
