@@ -102,11 +102,18 @@ module _ (field : Meaning) (leg : Leg) where
         sym (halved-walk n m (subst (λ x. clears field leg m x ≡ false) e test) ∙ ap (λ z. andThen z (examineOf field leg n (m + 2 ^ n))) x)
 
   -- What a walk over a piece counted.
-  pub counted-below : (m r : ℕ) → IsPiece m r → (w : Walk) → ((k : ℕ) → r ≡ 2 ^ k → w ≡ examineOf field leg k m) → boundsOf w < 4096
+  counted-below : (m r : ℕ) → IsPiece m r → (w : Walk) → ((k : ℕ) → r ≡ 2 ^ k → w ≡ examineOf field leg k m) → boundsOf w < 4096
   counted-below m r piece w walked =
       let level = level-of r (piece .1) in
       let n = level .0 in
       omega (arith, ap boundsOf (walked n (level .2)), few-bounds n m, two-pow-succ n, pow-mono (level .1))
+
+-- What `examine` shows of its walk, from what the walk is.
+pub walked : (field : Meaning) (leg : Leg) (m r : ℕ) → IsPiece m r → {w : Walk} → ((n : ℕ) → r ≡ 2 ^ n → w ≡ examineOf field leg n m) → record {
+  exact : (n : ℕ) → r ≡ 2 ^ n → w ≡ examineOf field leg n m;
+  few : boundsOf w < 4096;
+}
+walked field leg m r piece {w} e = record { exact = e; few = counted-below field leg m r piece w e }
 
 -- Where the walk over the whole leg stops.
 pub stopped-on-leg : (field : Meaning) (leg : Leg) (s b : ℕ) → Stopped s b ≡ examineOf field leg 11 2048 → (0 < s) × (s < 4096)

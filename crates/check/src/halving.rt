@@ -54,10 +54,11 @@ impl Walk {
     }
 }
 
-// The first half of an uncleared piece, and then the second unless the first stopped the walk.
+// A piece that its bound clears is done. Of any other the first half is examined, and then the second unless the first stopped the walk; a finest one stops it.
 fn examine<F: Field>(field: &F, leg: &Leg, piece: Piece) -> Walk
     requires { ⌜ lawful (now field) ⌝ }
-    ensures { λ r. ⌜ ((n : ℕ) → piece .half ≡ 2 ^ n → r ≡ examineOf (meaning (now (field .entry))) (now (leg .entry)) n (piece .middle)) ⌝ }
+    ensures exact { λ r. ⌜ ((n : ℕ) → piece .half ≡ 2 ^ n → r ≡ examineOf (meaning (now (field .entry))) (now (leg .entry)) n (piece .middle)) ⌝ }
+    ensures few { λ r. ⌜ boundsOf r < 4096 ⌝ }
 {
     if cleared(field, leg, piece) {
         return Walk::Cleared { bounds: 1 };
@@ -78,7 +79,7 @@ fn examine<F: Field>(field: &F, leg: &Leg, piece: Piece) -> Walk
     }
 }
 
-// Inside at its start, or as its pieces decide.
+// Inside if the start is, and else as the walk over the whole leg ends.
 fn judge<F: Field>(field: &F, leg: &Leg) -> Verdict
     requires { ⌜ lawful (now field) ⌝ }
     ensures exact { λ v. ⌜ v ≡ checkOf (meaning (now (field .entry))) (now (leg .entry)) ⌝ }

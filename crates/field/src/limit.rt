@@ -1,4 +1,4 @@
-// What two joined fields reach, and how steep they are.
+// The steepness and the reach of two joined fields, and the limit of a reach.
 ghost use mathlib.Core.Path.{_≡_};
 ghost use lib.IntN.{pos, _+ℤ_};
 ghost use lib.Signed.{_≤ℤ_};

@@ -1,4 +1,3 @@
-// The outside of a field.
 ghost use mathlib.Core.Path.{_≡_};
 ghost use denote.Ref.{now};
 ghost use lib.IntN.{negℤ};

@@ -1,4 +1,3 @@
-// The union of two fields.
 ghost use mathlib.Core.Path.{_≡_};
 ghost use denote.Ref.{now};
 ghost use Rattle.std.specs.Results.{Cases};

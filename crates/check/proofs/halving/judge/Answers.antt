@@ -17,18 +17,18 @@ returns-then-not-above-zero g c =
 pub sub-piece : need.sub-piece
 sub-piece g c =
     stopped-on-leg (g .F·Field .meaning (c .args .field .now)) (c .args .leg .now) (c .in-Stopped .middle) (c .in-Stopped .bounds)
-    (whole-walk (g .F·Field .meaning (c .args .field .now)) (c .args .leg .now) (c .whole .ensures .value) (c .in-Stopped .ensures tt)) .0
+    (whole-walk (g .F·Field .meaning (c .args .field .now)) (c .args .leg .now) (c .whole .ensures .value) (c .in-Stopped .ensures tt .exact)) .0
 
 pub add-middle : need.add-middle
 add-middle g c =
     let on-leg = stopped-on-leg (g .F·Field .meaning (c .args .field .now)) (c .args .leg .now) (c .in-Stopped .middle) (c .in-Stopped .bounds)
-    (whole-walk (g .F·Field .meaning (c .args .field .now)) (c .args .leg .now) (c .whole .ensures .value) (c .in-Stopped .ensures tt)) in
+    (whole-walk (g .F·Field .meaning (c .args .field .now)) (c .args .leg .now) (c .whole .ensures .value) (c .in-Stopped .ensures tt .exact)) in
     omega (arith, on-leg)
 
 pub ghost-value-in-Stopped : need.ghost-value-in-Stopped
 ghost-value-in-Stopped g c =
     let on-leg = stopped-on-leg (g .F·Field .meaning (c .args .field .now)) (c .args .leg .now) (c .in-Stopped .middle) (c .in-Stopped .bounds)
-    (whole-walk (g .F·Field .meaning (c .args .field .now)) (c .args .leg .now) (c .whole .ensures .value) (c .in-Stopped .ensures tt)) in
+    (whole-walk (g .F·Field .meaning (c .args .field .now)) (c .args .leg .now) (c .whole .ensures .value) (c .in-Stopped .ensures tt .exact)) in
     omega (arith, on-leg)
 
 pub returns-in-Cleared : need.returns-in-Cleared
@@ -36,14 +36,14 @@ returns-in-Cleared g c =
     shown (g .F·Field .meaning (c .args .field .now)) (c .args .leg .now) (g .F·Field .laws (c .args .field .now) (c .pre))
     (clear-exact (g .F·Field .meaning (c .args .field .now)) (c .args .leg .now)
     (tested (c .value .ok) (c .value .ensures) (c .above-zero .ensures) ∙ c .if-not-above-zero .left)
-    (c .in-Cleared .bounds) (whole-walk (g .F·Field .meaning (c .args .field .now)) (c .args .leg .now) (c .whole .ensures .value) (c .in-Cleared .ensures tt)))
+    (c .in-Cleared .bounds) (whole-walk (g .F·Field .meaning (c .args .field .now)) (c .args .leg .now) (c .whole .ensures .value) (c .in-Cleared .ensures tt .exact)))
 
 pub returns-then-above-zero : need.returns-then-above-zero
 returns-then-above-zero g c =
     shown (g .F·Field .meaning (c .args .field .now)) (c .args .leg .now) (g .F·Field .laws (c .args .field .now) (c .pre))
     (near-exact (g .F·Field .meaning (c .args .field .now)) (c .args .leg .now)
     (tested (c .value .ok) (c .value .ensures) (c .above-zero .ensures) ∙ c .if-not-above-zero .left)
-    (c .in-Stopped .middle) (c .in-Stopped .bounds) (whole-walk (g .F·Field .meaning (c .args .field .now)) (c .args .leg .now) (c .whole .ensures .value) (c .in-Stopped .ensures tt))
+    (c .in-Stopped .middle) (c .in-Stopped .bounds) (whole-walk (g .F·Field .meaning (c .args .field .now)) (c .args .leg .now) (c .whole .ensures .value) (c .in-Stopped .ensures tt .exact))
     (tested (c .value-in-Stopped .ok) (c .value-in-Stopped .ensures) (c .above-zero-in-Stopped .ensures) ∙ c .if-above-zero .taken))
 
 pub returns-else-above-zero : need.returns-else-above-zero
@@ -51,5 +51,5 @@ returns-else-above-zero g c =
     shown (g .F·Field .meaning (c .args .field .now)) (c .args .leg .now) (g .F·Field .laws (c .args .field .now) (c .pre))
     (entered-exact (g .F·Field .meaning (c .args .field .now)) (c .args .leg .now)
     (tested (c .value .ok) (c .value .ensures) (c .above-zero .ensures) ∙ c .if-not-above-zero .left)
-    (c .in-Stopped .middle) (c .in-Stopped .bounds) (whole-walk (g .F·Field .meaning (c .args .field .now)) (c .args .leg .now) (c .whole .ensures .value) (c .in-Stopped .ensures tt))
+    (c .in-Stopped .middle) (c .in-Stopped .bounds) (whole-walk (g .F·Field .meaning (c .args .field .now)) (c .args .leg .now) (c .whole .ensures .value) (c .in-Stopped .ensures tt .exact))
     (tested (c .value-in-Stopped .ok) (c .value-in-Stopped .ensures) (c .above-zero-in-Stopped .ensures) ∙ c .if-above-zero .left))
