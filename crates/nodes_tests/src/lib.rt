@@ -16,7 +16,7 @@ use nodes::values_at;
 use refusal::Refusal;
 
 // Validates each node after those before it.
-pub fn build(nodes: &[Node]) -> Result<(), Refusal>
+fn build(nodes: &[Node]) -> Result<(), Refusal>
     ensures { λ r. ⌜ Cases r (λ _. (length (now (nodes .entry)) ≤ 64) × WellFormed (now (nodes .entry))) (λ _. Unit {0}) ⌝ }
 {
     if nodes.len() > 64 {
@@ -29,29 +29,29 @@ pub fn build(nodes: &[Node]) -> Result<(), Refusal>
 }
 
 // The number of the first refusal, or 0.
-pub fn refusal_of(nodes: &[Node]) -> u8 {
+fn refusal_of(nodes: &[Node]) -> u8 {
     match build(nodes) {
         Ok(()) => 0,
         Err(e) => e.number(),
     }
 }
 
-pub fn values_of(nodes: &[Node], leg: &Leg, at: i64) -> Result<[Form; 64], Refusal> {
+fn values_of(nodes: &[Node], leg: &Leg, at: i64) -> Result<[Form; 64], Refusal> {
     build(nodes)?;
     Ok(values_at(nodes, leg, HalfStep::new(at)?))
 }
 
-pub fn forms_of(nodes: &[Node], leg: &Leg, middle: i64, half: i64) -> Result<[Form; 64], Refusal> {
+fn forms_of(nodes: &[Node], leg: &Leg, middle: i64, half: i64) -> Result<[Form; 64], Refusal> {
     build(nodes)?;
     Ok(forms_on(nodes, leg, Piece::new(middle, half)?))
 }
 
-pub fn reaches_of(nodes: &[Node]) -> Result<[i64; 64], Refusal> {
+fn reaches_of(nodes: &[Node]) -> Result<[i64; 64], Refusal> {
     build(nodes)?;
     Ok(reaches(nodes))
 }
 
-pub fn steepnesses_of(nodes: &[Node], leg: &Leg) -> Result<[i64; 64], Refusal> {
+fn steepnesses_of(nodes: &[Node], leg: &Leg) -> Result<[i64; 64], Refusal> {
     build(nodes)?;
     Ok(steepnesses(nodes, leg))
 }

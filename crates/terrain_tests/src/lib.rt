@@ -11,7 +11,7 @@ use terrain::Lattice;
 use terrain::Terrain;
 
 // Height number k is k² in 317, less 16.
-pub fn rough_row(heap: Global) -> Result<Vec<i16>, AllocError> {
+fn rough_row(heap: Global) -> Result<Vec<i16>, AllocError> {
     let mut row = Vec::new(heap);
     for k in 0..16641u64 {
         row.push((k * k % 317) as i16 - 16)?;
@@ -20,7 +20,7 @@ pub fn rough_row(heap: Global) -> Result<Vec<i16>, AllocError> {
 }
 
 // A file with one height everywhere, by its two bytes.
-pub fn flat_file(heap: Global, high: u8, low: u8) -> Result<Vec<u8>, AllocError> {
+fn flat_file(heap: Global, high: u8, low: u8) -> Result<Vec<u8>, AllocError> {
     let mut bytes = Vec::new(heap);
     for _ in 0..16641 {
         bytes.push(high)?;
@@ -29,22 +29,22 @@ pub fn flat_file(heap: Global, high: u8, low: u8) -> Result<Vec<u8>, AllocError>
     Ok(bytes)
 }
 
-pub fn lattice_of(row: Vec<i16>) -> Result<Lattice, Refusal> {
+fn lattice_of(row: Vec<i16>) -> Result<Lattice, Refusal> {
     Lattice::fits(row.as_slice())?;
     Ok(Lattice::new(row))
 }
 
 // The lattice of a file, or nothing where there is no memory for it.
-pub fn lattice_of_file(heap: Global, bytes: &[u8]) -> Result<Option<Lattice>, Refusal> {
+fn lattice_of_file(heap: Global, bytes: &[u8]) -> Result<Option<Lattice>, Refusal> {
     Lattice::file_fits(bytes)?;
     Ok(Lattice::from_file(heap, bytes).ok())
 }
 
-pub fn value_at(lattice: &Lattice, leg: &Leg, step: i64) -> Result<i64, Refusal> {
+fn value_at(lattice: &Lattice, leg: &Leg, step: i64) -> Result<i64, Refusal> {
     Ok(lattice.value(leg, HalfStep::new(step)?))
 }
 
-pub fn bound_on(lattice: &Lattice, leg: &Leg, middle: i64, half: i64) -> Result<Form, Refusal> {
+fn bound_on(lattice: &Lattice, leg: &Leg, middle: i64, half: i64) -> Result<Form, Refusal> {
     Ok(lattice.bound(leg, Piece::new(middle, half)?))
 }
 
