@@ -6,3 +6,8 @@ pub mod Lawful
 pub mod Combining
 pub mod Quadrics
 pub mod Every
+pub mod WholeCode
+pub mod Ends
+pub mod WholeNumbers
+pub mod Bounds
+pub mod AffineForms

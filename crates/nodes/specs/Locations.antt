@@ -1,6 +1,6 @@
 -- Coordinates at a location, and the two arithmetics' quadrics from them.
 use mathlib.Core.Path.{_≡_}
-use lib.IntN.{ℤ, pos, negℤ, _+ℤ_, _-ℤ_, _*ℤ_}
+use lib.IntN.{ℤ, pos, negsuc, negℤ, _+ℤ_, _-ℤ_, _*ℤ_}
 use Rattle.std.specs.Numbers.{minZ, maxZ}
 use Rattle.integer.specs.Numbers.{Within}
 use Rattle.leg.specs.declared.shapes.Leg.{Leg}
@@ -79,7 +79,7 @@ affineAxes leg piece = record {
 
 -- s D² + 4096 l D, where D = x − 4096 c
 unfoldable pub affineAxis : (x : Form) (c s l : ℤ) → Form
-affineAxis x c s l = sumOf (scaledBy s (squareOf (shiftedBy (negℤ (pos 4096 *ℤ c)) x))) (scaledBy (pos 4096 *ℤ l) (shiftedBy (negℤ (pos 4096 *ℤ c)) x))
+affineAxis x c s l = sumOf (scaledBy s (squareOf (shiftedBy (negsuc 4095 *ℤ c) x))) (scaledBy (pos 4096 *ℤ l) (shiftedBy (negsuc 4095 *ℤ c) x))
 
 abbrev pub affineQuadric : Axes → Node → Form
 affineQuadric axes node =
