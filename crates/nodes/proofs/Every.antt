@@ -6,11 +6,13 @@ use native.Mathlib.Omega.{arith}
 use lib.IntN.{ℤ, pos, _+ℤ_, _-ℤ_, _*ℤ_}
 use lib.Signed.{_≤ℤ_}
 use lib.ListN.{length}
+use Rattle.std.specs.Numbers.{maxZ}
 use borrow.Author.Differences.{ints}
 use Rattle.integer.specs.Numbers.{Within, absℤ}
 use Rattle.integer.proofs.Ring.{ring, _:+_, _:-_, _:*_, con, _:=_}
-use Rattle.integer.proofs.Order.{≤ℤ-trans, gap, sum≥0, product≥0, by-gap}
+use Rattle.integer.proofs.Order.{≤ℤ-trans, natural≥0, gap, sum≥0, product≥0, by-gap}
 use Rattle.integer.proofs.Absolute.{abs≥0, under, over, within-from, within-same, within-wider}
+use Rattle.integer.proofs.Extremes.{max-first}
 use Rattle.leg.specs.declared.shapes.Leg.{Leg}
 use Rattle.leg.specs.Ranges.{IsPiece}
 use Rattle.leg.proofs.Shaping.{piece-span}
@@ -20,6 +22,7 @@ use Rattle.affine.specs.Fits.{EndsWithin}
 use Rattle.affine.proofs.Ends.{low≤high}
 use Rattle.nodes.specs.declared.node.Node.{Node}
 use Rattle.nodes.specs.Tables.{resultOf}
+use Rattle.nodes.specs.Quadrics.{quadricReach}
 use Rattle.nodes.specs.Meanings.{Value, values, steepnesses, reaches, forms, valueOf, steepnessOf, reachOf, formOf}
 use Rattle.nodes.specs.Formed.{WellFormed, reachLimit}
 use Rattle.nodes.specs.Laws.{Laws, EveryNodeIsLawful}
@@ -147,3 +150,44 @@ every-node-is-lawful nodes formed leg i i< =
     subst (λ (X : Type 0). X)
     (same _ (value-is nodes formed leg i i<) _ (steepness-is nodes formed leg i i<) _ (reach-is nodes formed leg i i<) _ (form-is nodes formed leg i i<))
     (laws-of a (node-lawful nodes formed leg i i<) (reach-limit nodes formed leg i i<))
+
+-- ---- no steepness and no reach is too large
+
+-- 0 ≤ 2048 L ≤ R
+steepness≤ : (l g : ℤ) → pos 0 ≤ℤ l → (pos 2048 *ℤ l) ≤ℤ g → l ≤ℤ g
+steepness≤ l g h k = omega (arith, ints)
+
+quadric-reach≥0 : (node : Node) → pos 0 ≤ℤ quadricReach node
+unfolding quadricReach
+quadric-reach≥0 node =
+    sum≥0
+    (sum≥0
+    (product≥0 (natural≥0 1125899906842624) (sum≥0 (sum≥0 (abs≥0 (node .sx)) (abs≥0 (node .sy))) (abs≥0 (node .sz))))
+    (product≥0 (natural≥0 137438953472) (sum≥0 (sum≥0 (abs≥0 (node .lx)) (abs≥0 (node .ly))) (abs≥0 (node .lz)))))
+    (product≥0 (natural≥0 16777216) (abs≥0 (node .k)))
+
+widened≥0 : (a b : ℤ) → pos 0 ≤ℤ a → pos 0 ≤ℤ (maxZ a b +ℤ pos 2048)
+widened≥0 a b h = sum≥0 (≤ℤ-trans h (max-first a b)) (natural≥0 2048)
+
+reach≥0 : (nodes : List Node) → WellFormed nodes → (i : ℕ) → i < length nodes → pos 0 ≤ℤ reachOf nodes i
+reach≥0 nodes formed =
+    related-results nodes formed reaches reaches (λ (a b : ℤ). pos 0 ≤ℤ a)
+    (record {
+      quadric = λ node _. quadric-reach≥0 node;
+      sum = λ a b _ _ h k. sum≥0 h k;
+      lesser = λ a b _ _ h _. widened≥0 a b h;
+      greater = λ a b _ _ h _. widened≥0 a b h;
+      opposite = λ a _ h. h;
+    })
+
+within-limit : (x : ℤ) → pos 0 ≤ℤ x → x ≤ℤ reachLimit → Within x (pos 1152921504606846976)
+within-limit x h k = within-from x (pos 1152921504606846976) (omega (arith, ints)) (omega (arith, ints))
+
+pub steepness-small : (nodes : List Node) → WellFormed nodes → (leg : Leg) (i : ℕ) → i < length nodes → Within (steepnessOf leg nodes i) (pos 1152921504606846976)
+steepness-small nodes formed leg i i< =
+    let law = every-node-is-lawful nodes formed leg i i< in
+    within-limit _ (law .steepness≥0) (≤ℤ-trans (steepness≤ _ _ (law .steepness≥0) (law .steepness-in-reach)) (law .reach-in-limit))
+
+pub reach-small : (nodes : List Node) → WellFormed nodes → (i : ℕ) → i < length nodes → Within (reachOf nodes i) (pos 1152921504606846976)
+reach-small nodes formed i i< =
+    within-limit _ (reach≥0 nodes formed i i<) (formed .reached i i<)

@@ -1,5 +1,7 @@
 mod arithmetic;
 mod axes;
+mod evaluation;
+mod extents;
 mod forms;
 mod node;
 mod whole;
@@ -7,6 +9,10 @@ mod whole;
 pub use arithmetic::Arithmetic;
 pub use arithmetic::evaluate;
 pub use axes::Axes;
+pub use evaluation::forms_on;
+pub use evaluation::values_at;
+pub use extents::reaches;
+pub use extents::steepnesses;
 pub use forms::Affine;
 pub use forms::AffineArithmetic;
 pub use node::Node;
