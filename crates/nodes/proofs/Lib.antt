@@ -12,3 +12,5 @@ pub mod WholeNumbers
 pub mod Bounds
 pub mod AffineForms
 pub mod ExtentCode
+pub mod Growing
+pub mod Testing

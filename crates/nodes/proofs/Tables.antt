@@ -100,11 +100,12 @@ keeps-earlier i node false false true four k = (refers-below (node .a) (k .0), r
 keeps-earlier i node false false false true k = (refers-below (node .a) (k .0), refers-below (node .b) (k .1))
 keeps-earlier i node false false false false k = refers-below (node .a) (k .0)
 
+pub names-earlier : (i : ℕ) (node : Node) → Keeps i node (shapeOf node) → Earlier i (shapeOf node)
+names-earlier i node keeps = keeps-earlier i node (equals (node .kind) 1) (equals (node .kind) 2) (equals (node .kind) 3) (equals (node .kind) 4) keeps
+
 module _ (nodes : List Node) (formed : WellFormed nodes) where
   pub earlier : (i : ℕ) → i < length nodes → Earlier i (shapeOf (getD nodes i noNode))
-  earlier i i< =
-      let kind = getD nodes i noNode .kind in
-      keeps-earlier i (getD nodes i noNode) (equals kind 1) (equals kind 2) (equals kind 3) (equals kind 4) (formed .keeps i i<)
+  earlier i i< = names-earlier i (getD nodes i noNode) (formed .keeps i i<)
 
   module _ {A B : Type 0} (al : Algebra A) (bl : Algebra B) (R : A → B → Type 0) (related : Related al bl R) where
     related-given : (look : ℕ → A) (look′ : ℕ → B) (i : ℕ) → ((k : ℕ) → k < i → R (look k) (look′ k)) → (node : Node) (shape : Shape) → Earlier i shape → Keeps i node shape →

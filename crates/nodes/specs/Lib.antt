@@ -5,3 +5,4 @@ pub mod Formed
 pub mod Laws
 pub mod Locations
 pub mod Sizes
+pub mod Validation

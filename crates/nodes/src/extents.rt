@@ -11,8 +11,9 @@ ghost use Rattle.nodes.specs.Tables.{shapeOf, given, resultOf};
 ghost use Rattle.nodes.specs.Quadrics.{quadricSteepness, quadricReach};
 ghost use Rattle.nodes.specs.Meanings.{steepnessMargin, reachMargin, steepnessOf, reachOf};
 ghost use Rattle.nodes.specs.Meanings.{extents as extentsBy};
-ghost use Rattle.nodes.specs.Formed.{InRange, WellFormed};
+ghost use Rattle.nodes.specs.Formed.{InRange, Keeps, WellFormed};
 ghost use Rattle.nodes.specs.Sizes.{Ready};
+ghost use Rattle.nodes.specs.Validation.{newReach};
 use crate::node::Node;
 use crate::node::Shape;
 use leg::Leg;
@@ -33,7 +34,7 @@ fn widened(a: i64, b: i64, margin: i64) -> i64
 }
 
 // A size of a node, steepness or reach.
-pub(crate) trait Extent {
+trait Extent {
     ghost quadricOf: { Self → Node → ℤ };
 
     ghost extra: { ℤ };
@@ -50,7 +51,7 @@ pub(crate) trait Extent {
 }
 
 // What a node has, where `done` holds what the nodes before it have.
-pub(crate) fn extent_of<E: Extent>(extent: &E, node: &Node, done: &[i64; 64]) -> i64
+fn extent_of<E: Extent>(extent: &E, node: &Node, done: &[i64; 64]) -> i64
     requires { ⌜ Ready (now node) (now done) (shapeOf (now node)) ⌝ }
     ensures { λ r. ⌜ r ≡ given (extentsBy (λ n. quadricOf (now (extent .entry)) n) extra) (λ k. getD (now (done .entry)) k (pos 0)) (now (node .entry)) ⌝ }
 {
@@ -100,7 +101,7 @@ impl Extent for Steepness as SteepnessExtent {
 }
 
 #[derive(Drop)]
-pub(crate) struct Reach;
+struct Reach;
 
 impl Extent for Reach as ReachExtent {
     ghost quadricOf = { λ _ node. quadricReach node };
@@ -134,4 +135,15 @@ pub fn reaches(nodes: &[Node]) -> [i64; 64]
     ensures { λ r. ⌜ ((i : ℕ) → i < length (now (nodes .entry)) → getD r i (pos 0) ≡ reachOf (now (nodes .entry)) i) ⌝ }
 {
     extents(&Reach, nodes)
+}
+
+// The reach of a node that is to follow a well-formed list.
+pub(crate) fn reach_after(nodes: &[Node], node: &Node) -> i64
+    requires few { ⌜ length (now nodes) ≤ 64 ⌝ }
+    requires formed { ⌜ WellFormed (now nodes) ⌝ }
+    requires keeps { ⌜ Keeps (length (now nodes)) (now node) (shapeOf (now node)) ⌝ }
+    ensures { λ r. ⌜ r ≡ newReach (now (nodes .entry)) (now (node .entry)) ⌝ }
+{
+    let done = reaches(nodes);
+    extent_of(&Reach, node, &done)
 }

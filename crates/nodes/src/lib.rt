@@ -4,6 +4,7 @@ mod evaluation;
 mod extents;
 mod forms;
 mod node;
+mod validation;
 mod whole;
 
 pub use arithmetic::Arithmetic;
@@ -17,5 +18,6 @@ pub use forms::Affine;
 pub use forms::AffineArithmetic;
 pub use node::Node;
 pub use node::Shape;
+pub use validation::validate;
 pub use whole::Whole;
 pub use whole::WholeArithmetic;
