@@ -46,6 +46,9 @@ module _ (nodes : List Node) (node : Node) where
   node-added : getD (nodes ++ (node ∷ [])) (length nodes) noNode ≡ node
   node-added = getD-append-seam nodes node [] noNode
 
+  last-below : length nodes < length (nodes ++ (node ∷ []))
+  last-below = let longer : length (nodes ++ (node ∷ [])) ≡ length nodes + 1 = length-append nodes (node ∷ []) in omega arith
+
   -- what holds of the list and of the new node holds of the longer list
   all-longer : (P : ℕ → Node → Type 0) → ((i : ℕ) → i < length nodes → P i (getD nodes i noNode)) → P (length nodes) node →
       (i : ℕ) → i < length (nodes ++ (node ∷ [])) → P i (getD (nodes ++ (node ∷ [])) i noNode)
@@ -69,6 +72,16 @@ module _ (nodes : List Node) (node : Node) where
     where
       one-more : (i : ℕ) → i < length (nodes ++ (node ∷ [])) → i < length nodes + 1
       one-more i i< = let longer : length (nodes ++ (node ∷ [])) ≡ length nodes + 1 = length-append nodes (node ∷ []) in omega arith
+
+  -- what the last node of a well-formed list keeps
+  pub last-known : WellFormed (nodes ++ (node ∷ [])) → Known (node .kind)
+  last-known formed = subst (λ (n : Node). Known (n .kind)) node-added (formed .known (length nodes) last-below)
+
+  pub last-keeps : WellFormed (nodes ++ (node ∷ [])) → Keeps (length nodes) node (shapeOf node)
+  last-keeps formed = subst (λ (n : Node). Keeps (length nodes) n (shapeOf n)) node-added (formed .keeps (length nodes) last-below)
+
+  pub last-reach : WellFormed (nodes ++ (node ∷ [])) → given reaches (reachOf nodes) node ≤ℤ reachLimit
+  last-reach formed = subst (λ (x : ℤ). x ≤ℤ reachLimit) (result-added reaches nodes node) (formed .reached (length nodes) last-below)
 
   -- taking the last node back
   pub taken-back-well-formed : WellFormed (nodes ++ (node ∷ [])) → WellFormed nodes

@@ -117,8 +117,8 @@ impl Node {
     }
 }
 
-// Whether a node with any numbers can follow a well-formed list: it is refused by the first number that fits, and if it is taken the longer list is well-formed.
-pub fn validate(nodes: &[Node], node: &Node) -> Result<(), Refusal>
+// The first refusal that fits a node which is to follow a well-formed list; if none fits the longer list is well-formed.
+fn first_refusal(nodes: &[Node], node: &Node) -> Result<(), Refusal>
     requires few { ⌜ length (now nodes) ≤ 64 ⌝ }
     requires formed { ⌜ WellFormed (now nodes) ⌝ }
     ensures { λ r. ⌜ Cases r (λ _. (nodeRefusal (now (nodes .entry)) (now (node .entry)) ≡ 0) × WellFormed (now (nodes .entry) ++ (now (node .entry) ∷ []))) (λ e. numberOf e ≡ nodeRefusal (now (nodes .entry)) (now (node .entry))) ⌝ }
@@ -136,4 +136,15 @@ pub fn validate(nodes: &[Node], node: &Node) -> Result<(), Refusal>
     } else {
         Ok(())
     }
+}
+
+// Whether a node with any numbers can follow a well-formed list. It is refused by the first number that fits, and none fits exactly if the longer list is
+// well-formed.
+pub fn validate(nodes: &[Node], node: &Node) -> Result<(), Refusal>
+    requires few { ⌜ length (now nodes) ≤ 64 ⌝ }
+    requires formed { ⌜ WellFormed (now nodes) ⌝ }
+    ensures value { λ r. ⌜ Cases r (λ _. (nodeRefusal (now (nodes .entry)) (now (node .entry)) ≡ 0) × WellFormed (now (nodes .entry) ++ (now (node .entry) ∷ []))) (λ e. numberOf e ≡ nodeRefusal (now (nodes .entry)) (now (node .entry))) ⌝ }
+    ensures exact { λ _. ⌜ (WellFormed (now (nodes .entry) ++ (now (node .entry) ∷ [])) → nodeRefusal (now (nodes .entry)) (now (node .entry)) ≡ 0) ⌝ }
+{
+    first_refusal(nodes, node)
 }
