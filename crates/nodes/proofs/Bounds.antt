@@ -8,9 +8,8 @@ use Rattle.integer.specs.Numbers.{Within}
 use Rattle.integer.proofs.Absolute.{within-sum, within-product, within-abs-self, within-wider}
 use Rattle.integer.proofs.Machine.{Is, is}
 use Rattle.affine.specs.declared.Form.{Form}
-use Rattle.affine.specs.Forms.{sumOf, scaledBy, shiftedBy, productOf}
+use Rattle.affine.specs.Forms.{sumOf, scaledBy, shiftedBy}
 use Rattle.affine.specs.Fits.{Bounded}
-use Rattle.nodes.specs.Quadrics.{squareOf}
 
 pub bounded-sum : {k l : ℕ} {u v : Form} → Bounded k u → Bounded l v → Bounded (k + l) (sumOf u v)
 bounded-sum a b = record { first = within-sum (a .first) (b .first); second = within-sum (a .second) (b .second); third = within-sum (a .third) (b .third) }
@@ -23,18 +22,6 @@ more l k = omega (arith, ints)
 
 pub bounded-shifted : {k l : ℕ} {c : ℤ} {u : Form} → Within c (pos k) → Bounded l u → Bounded (l + k) (shiftedBy c u)
 bounded-shifted {k} {l} w a = record { first = within-sum (a .first) w; second = within-wider (a .second) (more l k); third = within-wider (a .third) (more l k) }
-
-pub bounded-square : {k : ℕ} {u : Form} → Bounded k u → Bounded (k * k + k * k + (k + k) * (k + k)) (squareOf u)
-unfolding squareOf productOf
-bounded-square {k} a = record {
-  first = within-wider (within-product (a .first) (a .first)) (fewer (k * k) (k * k) ((k + k) * (k + k)));
-  second = within-wider (within-sum (within-product (a .first) (a .second)) (within-product (a .first) (a .second))) (more (k * k + k * k) ((k + k) * (k + k)));
-  third = within-sum (within-sum (within-product (within-abs-self (a .first)) (a .third)) (within-product (within-abs-self (a .first)) (a .third)))
-      (within-product (within-sum (within-abs-self (a .second)) (within-abs-self (a .third))) (within-sum (within-abs-self (a .second)) (within-abs-self (a .third))));
-}
-  where
-    fewer : (x y z : ℕ) → pos x ≤ℤ pos (x + y + z)
-    fewer x y z = omega (arith, ints)
 
 -- −4096
 pub is-down : Is (negsuc 4095) (negsuc 4095) 4096

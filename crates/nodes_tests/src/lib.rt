@@ -9,6 +9,8 @@ use leg::Leg;
 use leg::Piece;
 use nodes::Node;
 use nodes::forms_on;
+use nodes::reaches;
+use nodes::steepnesses;
 use nodes::validate;
 use nodes::values_at;
 use refusal::Refusal;
@@ -44,13 +46,21 @@ pub fn forms_of(nodes: &[Node], leg: &Leg, middle: i64, half: i64) -> Result<[Fo
     Ok(forms_on(nodes, leg, Piece::new(middle, half)?))
 }
 
+pub fn reaches_of(nodes: &[Node]) -> Result<[i64; 64], Refusal> {
+    build(nodes)?;
+    Ok(reaches(nodes))
+}
+
+pub fn steepnesses_of(nodes: &[Node], leg: &Leg) -> Result<[i64; 64], Refusal> {
+    build(nodes)?;
+    Ok(steepnesses(nodes, leg))
+}
+
 #[cfg(test)]
 mod tests {
     use super::*;
     use affine::FormDebug;
     use affine::FormPartialEq;
-    use nodes::reaches;
-    use nodes::steepnesses;
     use refusal::RefusalDebug;
     use std::test::*;
 
@@ -194,5 +204,25 @@ mod tests {
         check_eq(whole[1], form)?;
         check_eq(whole[2], form)?;
         check_eq(whole[3], form)
+    }
+
+    // A reach of 2^51 + 100 * 2^24, a steepness of 200 * 2^26.
+    #[test]
+    fn sizes() -> Result<(), Fail> {
+        let list = [
+            CYLINDER,
+            combined(3, 0, 0),
+            combined(2, 0, 1),
+            combined(5, 2, 0),
+        ];
+        let reach = reaches_of(&list)?;
+        check_eq(reach[0], 2251801491406848)?;
+        check_eq(reach[1], 2251801491408896)?;
+        check_eq(reach[3], 4503602982815744)?;
+        let leg = Leg::new(-100, 10, 100, 100, 10, 100)?;
+        let steepness = steepnesses_of(&list, &leg)?;
+        check_eq(steepness[0], 13421772800)?;
+        check_eq(steepness[1], 13421772801)?;
+        check_eq(steepness[3], 26843545601)
     }
 }

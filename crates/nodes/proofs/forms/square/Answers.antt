@@ -1,8 +1,7 @@
 use mathlib.Core.Path.{sym, subst, _∙_}
 use Rattle.affine.specs.Fits.{Bounded}
 use Rattle.affine.proofs.Fitting.{product-fits}
-use Rattle.nodes.proofs.Squares.{square-is}
-use Rattle.nodes.proofs.Bounds.{bounded-square}
+use Rattle.nodes.proofs.Squares.{square-is, bounded-square}
 use Rattle.nodes.proofs.forms.square.Needs as need
 
 pub product-requires : need.product-requires
