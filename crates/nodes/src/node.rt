@@ -3,7 +3,7 @@ ghost use mathlib.Core.Path.{_≡_};
 ghost use Rattle.nodes.specs.Tables.{shapeOf};
 
 // One row of the node table: its kind, the numbers of the nodes that it combines, and the numbers of a quadric.
-#[derive(Clone, Copy, PartialEq, Eq, Debug)]
+#[derive(Clone, Copy)]
 pub struct Node {
     pub kind: i64,
     pub a: i64,
