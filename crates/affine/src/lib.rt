@@ -1,3 +1,5 @@
+#![tactic(auto)]
+
 mod combining;
 mod extremes;
 mod limits;

@@ -1,4 +1,6 @@
 // Edges of legs, half-steps, pieces and forms.
+#![tactic(auto)]
+
 #[cfg(test)]
 mod forms;
 #[cfg(test)]

@@ -1,4 +1,6 @@
 // Closed areas over the nodes of a list, and the field that those which are on make.
+#![tactic(auto)]
+
 mod answers;
 mod area;
 mod joining;

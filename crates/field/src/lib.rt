@@ -1,5 +1,7 @@
 // What a field is, and the layers: fields that are made of fields. A layer is made in two steps: `fits` says whether its reach is one that a field may have, and
 // `new` makes it and cannot refuse.
+#![tactic(auto)]
+
 mod common_parts;
 mod field;
 mod limit;

@@ -1,4 +1,6 @@
 // Two small fields, which go through the layers and the check.
+#![tactic(auto)]
+
 #[cfg(test)]
 mod checks;
 mod joined;

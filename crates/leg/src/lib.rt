@@ -1,3 +1,5 @@
+#![tactic(auto)]
+
 mod making;
 mod pieces;
 mod shapes;

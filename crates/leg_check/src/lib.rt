@@ -1,4 +1,6 @@
 // The check of a leg against a field, written once for every field.
+#![tactic(auto)]
+
 mod halving;
 mod verdict;
 

@@ -1,3 +1,5 @@
+#![tactic(auto)]
+
 use anyhow::anyhow;
 use report::report;
 use std::io::{ErrorKind, Read, Write};

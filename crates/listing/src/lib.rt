@@ -1,4 +1,6 @@
 // From the bytes of four files to the listing that the program prints.
+#![tactic(auto)]
+
 mod files;
 mod ground;
 mod legs;

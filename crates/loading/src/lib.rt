@@ -1,4 +1,6 @@
 // From the text of two tables to the sheet that they describe.
+#![tactic(auto)]
+
 mod error;
 mod part;
 mod tables;

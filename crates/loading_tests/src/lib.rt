@@ -1,6 +1,8 @@
+#![tactic(auto)]
+
 #[cfg(test)]
 mod tests {
-    use check::Verdict;
+    use leg_check::Verdict;
     use loading::{LoadError, load};
     use refusal::Fault;
     use std::alloc::Global;

@@ -1,3 +1,5 @@
+#![tactic(auto)]
+
 mod arithmetic;
 mod axes;
 mod evaluation;

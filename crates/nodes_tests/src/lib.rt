@@ -1,4 +1,6 @@
 // Lists of nodes, validated row by row, and what their nodes are.
+#![tactic(auto)]
+
 ghost use Rattle.std.specs.Prelude.{◌≤◌, length, OnOk};
 ghost use Rattle.nodes.specs.Formed.{WellFormed};
 

@@ -1,4 +1,6 @@
 // A sheet of closed areas, its calls, and the check of legs against it.
+#![tactic(auto)]
+
 mod call;
 mod calls;
 mod checks;

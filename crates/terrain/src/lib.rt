@@ -1,4 +1,6 @@
 // Terrain: a lattice of 129 × 129 heights in hundreds of feet, bilinear in each cell, as a field.
+#![tactic(auto)]
+
 mod bounds;
 mod cell;
 mod lattice;

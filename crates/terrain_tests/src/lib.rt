@@ -1,4 +1,6 @@
 // Lattices made of rows and of files, and terrain at the borders and corners of its lattice. The numbers were worked out by another program.
+#![tactic(auto)]
+
 use affine::Form;
 use field::Field;
 use leg::{HalfStep, Leg, Piece};
