@@ -10,28 +10,28 @@ use Rattle.affine.proofs.Form.lesser.Goals as goal
 pub span-requires : goal.span-requires
 span-requires c =
     let ul = stored_is c.low.ensures.value c.requires.left.low.end in
-    let vl = stored_is c.low-else-ends-before-2.ensures.value c.requires.right.low.end in
+    let vl = stored_is c.low-else-ends_before-2.ensures.value c.requires.right.low.end in
     let uh = stored_is c.high.ensures.value c.requires.left.high.end in
-    let vh = stored_is c.high-else-ends-before-2.ensures.value c.requires.right.high.end in
-    let lo = kept c.min.type-inv ∙ c.min.ensures.value ∙ ap₂ int_min ul vl in
-    let hi = kept c.min-else-ends-before-2.type-inv ∙ c.min-else-ends-before-2.ensures.value ∙ ap₂ int_min uh vh in
+    let vh = stored_is c.high-else-ends_before-2.ensures.value c.requires.right.high.end in
+    let lo = kept c.min.type_inv ∙ c.min.ensures.value ∙ ap₂ int_min ul vl in
+    let hi = kept c.min-else-ends_before-2.type_inv ∙ c.min-else-ends_before-2.ensures.value ∙ ap₂ int_min uh vh in
     subst₂ SpanFits (sym lo) (sym hi) c.requires.span
 
-pub returns-then-ends-before : goal.returns-then-ends-before
-returns-then-ends-before c = lesser_result (lesser_first c.args.self c.args.v (sym c.ends-before.ensures ∙ c.if-ends-before.true))
+pub returns-then-ends_before : goal.returns-then-ends_before
+returns-then-ends_before c = lesser_result (lesser_first c.args.self c.args.v (sym c.ends_before.ensures ∙ c.if-ends_before.true))
 
-pub returns-then-ends-before-2 : goal.returns-then-ends-before-2
-returns-then-ends-before-2 c =
-    lesser_result (lesser_second c.args.self c.args.v (sym c.ends-before.ensures ∙ c.if-ends-before.false)
-    (sym c.ends-before-else-ends-before.ensures ∙ c.if-ends-before-2.true))
+pub returns-then-ends_before-2 : goal.returns-then-ends_before-2
+returns-then-ends_before-2 c =
+    lesser_result (lesser_second c.args.self c.args.v (sym c.ends_before.ensures ∙ c.if-ends_before.false)
+    (sym c.ends_before-else-ends_before.ensures ∙ c.if-ends_before-2.true))
 
-pub returns-else-ends-before-2 : goal.returns-else-ends-before-2
-returns-else-ends-before-2 c =
+pub returns-else-ends_before-2 : goal.returns-else-ends_before-2
+returns-else-ends_before-2 c =
     let ul = stored_is c.low.ensures.value c.requires.left.low.end in
-    let vl = stored_is c.low-else-ends-before-2.ensures.value c.requires.right.low.end in
+    let vl = stored_is c.low-else-ends_before-2.ensures.value c.requires.right.low.end in
     let uh = stored_is c.high.ensures.value c.requires.left.high.end in
-    let vh = stored_is c.high-else-ends-before-2.ensures.value c.requires.right.high.end in
-    let lo = kept c.min.type-inv ∙ c.min.ensures.value ∙ ap₂ int_min ul vl in
-    let hi = kept c.min-else-ends-before-2.type-inv ∙ c.min-else-ends-before-2.ensures.value ∙ ap₂ int_min uh vh in
+    let vh = stored_is c.high-else-ends_before-2.ensures.value c.requires.right.high.end in
+    let lo = kept c.min.type_inv ∙ c.min.ensures.value ∙ ap₂ int_min ul vl in
+    let hi = kept c.min-else-ends_before-2.type_inv ∙ c.min-else-ends_before-2.ensures.value ∙ ap₂ int_min uh vh in
     lesser_result (c.span.ensures ∙ ap₂ span_of lo hi
-    ∙ lesser_neither c.args.self c.args.v (sym c.ends-before.ensures ∙ c.if-ends-before.false) (sym c.ends-before-else-ends-before.ensures ∙ c.if-ends-before-2.false))
+    ∙ lesser_neither c.args.self c.args.v (sym c.ends_before.ensures ∙ c.if-ends_before.false) (sym c.ends_before-else-ends_before.ensures ∙ c.if-ends_before-2.false))

@@ -32,8 +32,8 @@ second u v fits a b c d =
     (stored_is (ap₂ ◌*ℤ◌ (stored_is refl c) (stored_is refl b)) fits.right_slope))
     fits.second
 
-pub overflow-add-result-2 : goal.overflow-add-result-2
-overflow-add-result-2 c =
+pub overflow_add-result-2 : goal.overflow_add-result-2
+overflow_add-result-2 c =
     let u2-fits : SFits w64 c.args.self.u2 = search rules in
     let v2-fits : SFits w64 c.args.v.u2 = search rules in
     let u0-fits : SFits w64 c.args.self.u0 = search rules in

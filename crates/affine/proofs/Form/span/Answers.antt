@@ -12,12 +12,12 @@ answered lo hi c f g h k r =
     k ∙ ceiling_only (stored (stored lo +ℤ stored hi)) (pos 2) c (record { le = tt }) r
     ∙ ap (λ (x : ℤ). ceiling_by x (pos 2)) (stored_is (ap₂ ◌+ℤ◌ (stored_is refl f) (stored_is refl g)) h)
 
-pub overflow-sub-result : goal.overflow-sub-result
-overflow-sub-result c =
-    let middle = answered c.args.lo c.args.hi c.half-up-centre.result c.ranges.lo c.ranges.hi c.requires.sum (kept c.half-up-centre.type-inv) c.half-up-centre.ensures in
+pub overflow_sub-result : goal.overflow_sub-result
+overflow_sub-result c =
+    let middle = answered c.args.lo c.args.hi c.half_up-centre.result c.ranges.lo c.ranges.hi c.requires.sum (kept c.half_up-centre.type_inv) c.half_up-centre.ensures in
     fits_is (ap₂ ◌-ℤ◌ middle (stored_is refl c.ranges.lo)) c.requires.width
 
 pub returns : goal.returns
 returns c =
-    let middle = answered c.args.lo c.args.hi c.half-up-centre.result c.ranges.lo c.ranges.hi c.requires.sum (kept c.half-up-centre.type-inv) c.half-up-centre.ensures in
+    let middle = answered c.args.lo c.args.hi c.half_up-centre.result c.ranges.lo c.ranges.hi c.requires.sum (kept c.half_up-centre.type_inv) c.half_up-centre.ensures in
     same_form middle refl (stored_is (ap₂ ◌-ℤ◌ middle (stored_is refl c.ranges.lo)) c.requires.width)

@@ -3,17 +3,17 @@ use Rattle.leg.proofs.Halving.{first_half, second_half}
 use Rattle.leg.proofs.Shaping.{covered, from_first, from_second}
 use Rattle.leg.proofs.shapes.Piece.halves.Goals as goal
 
-pub invariant-of-first : goal.invariant-of-first
-invariant-of-first c =
+pub invariant_of-first : goal.invariant_of-first
+invariant_of-first c =
     let some = c.args.self.made.0 in
     let wide : 1 < c.args.self.half = omega (arith, c.if-self-eq1.false) in
-    (first_half c.args.self.middle c.args.self.half c.args.self.made wide, tt)
+    record { made = first_half c.args.self.middle c.args.self.half c.args.self.made wide }
 
-pub invariant-of-second : goal.invariant-of-second
-invariant-of-second c =
+pub invariant_of-second : goal.invariant_of-second
+invariant_of-second c =
     let some = c.args.self.made.0 in
     let wide : 1 < c.args.self.half = omega (arith, c.if-self-eq1.false) in
-    (second_half c.args.self.middle c.args.self.half c.args.self.made wide, tt)
+    record { made = second_half c.args.self.middle c.args.self.half c.args.self.made wide }
 
 pub returns : goal.returns
 returns c =

@@ -6,35 +6,35 @@ use Rattle.leg.specs.Making.{lies_in_bounds, makes_piece}
 use Rattle.leg.proofs.Shaping.{passed, passed_shaped, shaped_passes, piece_on_leg}
 use Rattle.leg.proofs.shapes.Piece.new.Goals as goal
 
-pub returns-then-not-in-bounds : goal.returns-then-not-in-bounds
-returns-then-not-in-bounds c =
+pub returns-then-not-in_bounds : goal.returns-then-not-in_bounds
+returns-then-not-in_bounds c =
     let f = c.ranges.middle in let g = c.ranges.half in
-    let failed = simp to_z-of_z at c.in-bounds.ensures in
+    let failed = simp to_z-of_z at c.in_bounds.ensures in
     record {
-      value = (refl, λ shape. both_ways (lies_in_bounds c.args.middle c.args.half) (sym failed ∙ c.if-not-in-bounds.true) (shaped_passes c.args.middle c.args.half shape).bounds);
+      value = (refl, λ shape. both_ways (lies_in_bounds c.args.middle c.args.half) (sym failed ∙ c.if-not-in_bounds.true) (shaped_passes c.args.middle c.args.half shape).bounds);
       inside = tt;
     }
 
-pub invariant-of-result : goal.invariant-of-result
-invariant-of-result c =
-    ((passed (stored c.args.middle) (stored c.args.half) (sym c.in-bounds.ensures ∙ c.if-not-in-bounds.false) (sym c.is-piece.ensures ∙ c.if-is-piece.true)).piece, tt)
+pub invariant_of-result : goal.invariant_of-result
+invariant_of-result c =
+    record { made = (passed (stored c.args.middle) (stored c.args.half) (sym c.in_bounds.ensures ∙ c.if-not-in_bounds.false) (sym c.is_piece.ensures ∙ c.if-is_piece.true)).piece }
 
-pub returns-then-is-piece : goal.returns-then-is-piece
-returns-then-is-piece c =
+pub returns-then-is_piece : goal.returns-then-is_piece
+returns-then-is_piece c =
     let f = c.ranges.middle in let g = c.ranges.half in
-    let bounds = simp to_z-of_z at c.in-bounds.ensures in
-    let test = simp to_z-of_z at c.is-piece.ensures in
-    let p = passed c.args.middle c.args.half (sym bounds ∙ c.if-not-in-bounds.false) (sym test ∙ c.if-is-piece.true) in
+    let bounds = simp to_z-of_z at c.in_bounds.ensures in
+    let test = simp to_z-of_z at c.is_piece.ensures in
+    let p = passed c.args.middle c.args.half (sym bounds ∙ c.if-not-in_bounds.false) (sym test ∙ c.if-is_piece.true) in
     record {
       value = (passed_shaped c.args.middle c.args.half p, simp to_z-of_z p.middle, simp to_z-of_z p.half);
       inside = simp to_z-of_z (piece_on_leg (nat_abs c.args.middle) (nat_abs c.args.half) p.piece);
     }
 
-pub returns-else-is-piece : goal.returns-else-is-piece
-returns-else-is-piece c =
+pub returns-else-is_piece : goal.returns-else-is_piece
+returns-else-is_piece c =
     let f = c.ranges.middle in let g = c.ranges.half in
-    let failed = simp to_z-of_z at c.is-piece.ensures in
+    let failed = simp to_z-of_z at c.is_piece.ensures in
     record {
-      value = (refl, λ shape. both_ways (makes_piece (nat_abs c.args.middle) (nat_abs c.args.half)) (sym failed ∙ c.if-is-piece.false) (shaped_passes c.args.middle c.args.half shape).test);
+      value = (refl, λ shape. both_ways (makes_piece (nat_abs c.args.middle) (nat_abs c.args.half)) (sym failed ∙ c.if-is_piece.false) (shaped_passes c.args.middle c.args.half shape).test);
       inside = tt;
     }
