@@ -1,6 +1,4 @@
-use Rattle.std.proofs.Common.{◌≡◌, ◌-◌, ◌/◌, Bool, sym, ap, ◌∙◌, arith}
-use Rattle.leg_check.specs.declared.verdict.Verdict.TheVariants.{Clear, Inside, Entered, Near}
-use Rattle.leg_check.specs.declared.verdict.Walk.TheVariants.{Cleared, Stopped}
+use Rattle.std.proofs.Common.{◌∙◌, arith}
 use Rattle.leg_check.proofs.Walks.{stopped_on_leg, whole_walk}
 use Rattle.leg_check.proofs.Judging.{tested, shown, inside_exact, clear_exact, near_exact, entered_exact}
 use Rattle.leg_check.proofs.halving.judge.Goals as goal
