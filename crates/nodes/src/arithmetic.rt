@@ -83,8 +83,8 @@ pub trait Arithmetic {
 pub fn evaluate<R: Arithmetic>(nodes: &[Node], leg: &Leg, at: &R::Location) -> [Form; 64]
     requires few { length nodes.now ≤ 64 }
     requires formed { WellFormed nodes.now }
-    ensures value { (i : ℕ) → i < length nodes.now → slice_index_or result i zero_form ≡ result_of (algebra quadric_of sum_by lesser_by greater_by opposite_by (axes_at leg.now at.now)) nodes.now i }
-    ensures held { (i : ℕ) → i < length nodes.now → holds at.now (slice_index_or result i zero_form) (value_of leg.now nodes.now i) }
+    ensures value { (i : ℕ) → i < length nodes.now → slice_index_or result i zero_form ≡ result_of (algebra R.quadric_of R.sum_by R.lesser_by R.greater_by R.opposite_by (R.axes_at leg.now at.now)) nodes.now i }
+    ensures held { (i : ℕ) → i < length nodes.now → R.holds at.now (slice_index_or result i zero_form) (value_of leg.now nodes.now i) }
 {
     let axes = R::axes(leg, at);
     let mut out = [Form {

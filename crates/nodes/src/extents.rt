@@ -50,7 +50,7 @@ trait Extent {
 // What a node has, where `done` holds what the nodes before it have.
 fn extent_of<E: Extent>(extent: &E, node: &Node, done: &[i64; 64]) -> i64
     requires { Ready node.now done.now (shape_of node.now) }
-    ensures { result ≡ given (extents_by (λ n. quadric_of extent.now n) extra) (λ k. get_or done.now k (pos 0)) node.now }
+    ensures { result ≡ given (extents_by (λ n. E.quadric_of extent.now n) E.extra) (λ k. get_or done.now k (pos 0)) node.now }
 {
     match node.shape() {
         Shape::Quadric => extent.quadric(node),
@@ -64,7 +64,7 @@ fn extent_of<E: Extent>(extent: &E, node: &Node, done: &[i64; 64]) -> i64
 fn extents<E: Extent>(extent: &E, nodes: &[Node]) -> [i64; 64]
     requires few { length nodes.now ≤ 64 }
     requires formed { WellFormed nodes.now }
-    ensures { (i : ℕ) → i < length nodes.now → slice_index_or result i (pos 0) ≡ result_of (extents_by (λ n. quadric_of extent.now n) extra) nodes.now i }
+    ensures { (i : ℕ) → i < length nodes.now → slice_index_or result i (pos 0) ≡ result_of (extents_by (λ n. E.quadric_of extent.now n) E.extra) nodes.now i }
 {
     let mut out = [0; 64];
     for (i, node) in nodes.iter().enumerate() {

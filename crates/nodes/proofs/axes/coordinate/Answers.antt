@@ -4,11 +4,11 @@ use Rattle.integer.proofs.Machine.{fits, is_stored}
 use Rattle.nodes.specs.WholeCode.{coordinate_is, coordinate_in, step_in, is_move, is_coordinate}
 use Rattle.nodes.proofs.axes.coordinate.Goals as goal
 
-pub overflow-mul-result-2 : goal.overflow-mul-result-2
-overflow-mul-result-2 c = fits (is_move c.args.a c.args.b c.args.s c.requires.0 c.requires.1.0 (step_in c.args.s c.requires.1.1)) tt
+pub overflow_mul-result-2 : goal.overflow_mul-result-2
+overflow_mul-result-2 c = fits (is_move c.args.a c.args.b c.args.s c.requires.0 c.requires.1.0 (step_in c.args.s c.requires.1.1)) tt
 
-pub overflow-add-result : goal.overflow-add-result
-overflow-add-result c = fits (is_coordinate c.args.a c.args.b c.args.s c.requires.0 c.requires.1.0 (step_in c.args.s c.requires.1.1)) tt
+pub overflow_add-result : goal.overflow_add-result
+overflow_add-result c = fits (is_coordinate c.args.a c.args.b c.args.s c.requires.0 c.requires.1.0 (step_in c.args.s c.requires.1.1)) tt
 
 pub returns : goal.returns
 returns c =

@@ -10,8 +10,8 @@ use Rattle.nodes.proofs.ExtentCode.{ready}
 use Rattle.nodes.proofs.extents.extents.Given as given
 use Rattle.nodes.proofs.extents.extents.Goals as goal
 
-pub extent-of-requires : goal.extent-of-requires
-extent-of-requires g c =
+pub extent_of-requires : goal.extent_of-requires
+extent_of-requires g c =
     let nodes = c.args.nodes.now in let formed = c.requires.formed in let i = c.loop-i.i in let taken = c.loop-i-test.true in
     let al : Algebra ℤ = extents (λ n. g.E.Extent.quadric_of c.args.extent.now n) g.E.Extent.extra in
     let few : c.loop-i.i ≤ 64 = omega (arith, c.loop-i-test.true, c.requires.few) in
@@ -27,5 +27,5 @@ loop-i-preserved g c =
     let inside : i < length c.loop-i.out = omega (arith, c.loop-i-test.true, inv.0, c.requires.few) in (
       simp length-set inv.0,
       stored_entry al nodes out i _ inside inv.1
-          (kept c.extent-of.type-inv ∙ c.extent-of.ensures ∙ next_is al nodes formed out i taken inv.1 (shape_of (get_or nodes i no_node)) refl),
+          (kept c.extent_of.type_inv ∙ c.extent_of.ensures ∙ next_is al nodes formed out i taken inv.1 (shape_of (get_or nodes i no_node)) refl),
     )

@@ -8,8 +8,8 @@ use Rattle.nodes.specs.Every.{reach_small}
 use Rattle.nodes.proofs.ExtentCode.{ready}
 use Rattle.nodes.proofs.extents.reach_after.Goals as goal
 
-pub extent-of-requires : goal.extent-of-requires
-extent-of-requires c =
+pub extent_of-requires : goal.extent_of-requires
+extent_of-requires c =
     let nodes = c.args.nodes.now in let node = c.args.node.now in
     ready node c.reaches-done.result (length nodes) c.requires.few
     (λ k k<. subst (λ (x : ℤ). Within x (pos 1152921504606846976)) (sym (c.reaches-done.ensures k k<)) (reach_small nodes c.requires.formed k k<))
@@ -18,5 +18,5 @@ extent-of-requires c =
 pub returns : goal.returns
 returns c =
     let nodes = c.args.nodes.now in let node = c.args.node.now in
-    kept c.extent-of.type-inv ∙ c.extent-of.ensures
+    kept c.extent_of.type_inv ∙ c.extent_of.ensures
     ∙ same_look reaches (λ k. get_or c.reaches-done.result k (pos 0)) (reach_of nodes) (length nodes) c.reaches-done.ensures node (shape_of node) (names_earlier (length nodes) node c.requires.keeps)

@@ -8,23 +8,23 @@ use Rattle.nodes.proofs.Growing.{added_well_formed}
 use Rattle.nodes.proofs.Testing.{known_is, tests_keep, none_fits, not_above, not_above_test}
 use Rattle.nodes.proofs.validation.first_refusal.Goals as goal
 
-pub reach-after-requires : goal.reach-after-requires
-reach-after-requires c =
+pub reach_after-requires : goal.reach_after-requires
+reach_after-requires c =
     let nodes = c.args.nodes.now in let node = c.args.node.now in
     record {
       few = c.requires.few;
       formed = c.requires.formed;
-      keeps = tests_keep (length nodes) node (shape_of node) (sym c.if-not-refers-below.ensures) (sym c.if-not-rest-is-zero.ensures) (sym c.if-not-in-range.ensures);
+      keeps = tests_keep (length nodes) node (shape_of node) (sym c.if-not-refers_below.ensures) (sym c.if-not-rest_is_zero.ensures) (sym c.if-not-in_range.ensures);
     }
 
-pub returns-else-reach-after-gt-REACH-LIMIT : goal.returns-else-reach-after-gt-REACH-LIMIT
-returns-else-reach-after-gt-REACH-LIMIT c =
+pub returns-else-reach_after-gt-REACH_LIMIT : goal.returns-else-reach_after-gt-REACH_LIMIT
+returns-else-reach_after-gt-REACH_LIMIT c =
     let nodes = c.args.nodes.now in let node = c.args.node.now in
     let small : lt_z reach_bound (new_reach nodes node) ≡ false =
-    subst (λ (x : ℤ). lt_z reach_bound x ≡ false) (kept c.reach-after.type-inv ∙ c.reach-after.ensures) c.if-reach-after-gt-REACH-LIMIT.false in (
+    subst (λ (x : ℤ). lt_z reach_bound x ≡ false) (kept c.reach_after.type_inv ∙ c.reach_after.ensures) c.if-reach_after-gt-REACH_LIMIT.false in (
       none_fits (known node.kind) (references (length nodes) node (shape_of node)) (unused node (shape_of node)) (in_range node (shape_of node)) (le_z (new_reach nodes node) reach_bound)
-          c.if-not-known.ensures c.if-not-refers-below.ensures c.if-not-rest-is-zero.ensures c.if-not-in-range.ensures (not_above_test (new_reach nodes node) reach_bound small),
+          c.if-not-known.ensures c.if-not-refers_below.ensures c.if-not-rest_is_zero.ensures c.if-not-in_range.ensures (not_above_test (new_reach nodes node) reach_bound small),
       added_well_formed nodes node c.requires.formed (known_is node.kind (sym c.if-not-known.ensures))
-          (tests_keep (length nodes) node (shape_of node) (sym c.if-not-refers-below.ensures) (sym c.if-not-rest-is-zero.ensures) (sym c.if-not-in-range.ensures))
+          (tests_keep (length nodes) node (shape_of node) (sym c.if-not-refers_below.ensures) (sym c.if-not-rest_is_zero.ensures) (sym c.if-not-in_range.ensures))
           (not_above (new_reach nodes node) reach_bound small),
     )

@@ -6,6 +6,6 @@ pub returns : goal.returns
 returns c =
     let nodes = c.args.nodes.now in let node = c.args.node.now in
     record {
-      value = c.first-refusal.ensures;
+      value = c.first_refusal.ensures;
       exact = λ longer. accepted nodes node (last_known nodes node longer) (last_keeps nodes node longer) (last_reach nodes node longer);
     }

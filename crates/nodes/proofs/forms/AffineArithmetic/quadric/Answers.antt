@@ -30,8 +30,8 @@ sum-requires c = sum_fits c.axis-x.ensures.bounded c.axis-y.ensures.bounded tt
 pub sum-requires-2 : goal.sum-requires-2
 sum-requires-2 c = sum_fits (subst (Bounded 217298682020626432) (sym c.sum.ensures.value) (bounded_sum c.axis-x.ensures.bounded c.axis-y.ensures.bounded)) c.axis-z.ensures.bounded tt
 
-pub overflow-mul-node : goal.overflow-mul-node
-overflow-mul-node c = fits (is_product (is_numeral 16777216) (is_stored (is c.requires.range.k_in) tt)) tt
+pub overflow_mul-node : goal.overflow_mul-node
+overflow_mul-node c = fits (is_product (is_numeral 16777216) (is_stored (is c.requires.range.k_in) tt)) tt
 
 pub shifted-requires : goal.shifted-requires
 shifted-requires c =

@@ -11,7 +11,7 @@ returns c =
     let ly-fits : SFits w64 c.args.self.now.ly = search rules in
     let lz-fits : SFits w64 c.args.self.now.lz = search rules in
     let k-fits : SFits w64 c.args.self.now.k = search rules in
-    let s = simp to_z-of_z at c.between-each.ensures in
-    let l = simp to_z-of_z at c.between-each-2.ensures in
+    let s = simp to_z-of_z at c.between_each.ensures in
+    let l = simp to_z-of_z at c.between_each-2.ensures in
     let k = simp to_z-of_z at c.between.ensures in
-    ap₂ ◌&&◌ (ap₂ ◌&&◌ (ap₂ ◌&&◌ c.centre-on-map.ensures s) l) k
+    ap₂ ◌&&◌ (ap₂ ◌&&◌ (ap₂ ◌&&◌ c.centre_on_map.ensures s) l) k
