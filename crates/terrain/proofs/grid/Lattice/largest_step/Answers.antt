@@ -2,7 +2,7 @@ use Rattle.std.proofs.Common.{vec_items}
 use Rattle.lattice.proofs.Lawful.{steep_between}
 use Rattle.terrain.specs.Rows.{heights_of}
 use Rattle.terrain.proofs.Lattices.{largest_is}
-use Rattle.terrain.proofs.lattice.Lattice.largest_step.Goals as goal
+use Rattle.terrain.proofs.grid.Lattice.largest_step.Goals as goal
 
 pub returns : goal.returns
 returns c =
