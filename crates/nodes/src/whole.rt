@@ -3,7 +3,7 @@ ghost use Rattle.std.specs.Prelude.{◌≡◌, ℤ, pos};
 ghost use Rattle.integer.specs.Numbers.{Within};
 ghost use Rattle.nodes.specs.Locations.{whole, whole_axes, whole_axis, whole_quadric, whole_sum, whole_lesser, whole_greater, whole_opposite, WholeFits, WholeHolds};
 ghost use Rattle.nodes.specs.WholeNumbers.{whole_quadric_holds, whole_small};
-ghost use Rattle.std.proofs.Common.{rules};
+ghost use Rattle.std.proofs.Common.{ap, ap₂};
 
 use crate::arithmetic::Arithmetic;
 use crate::axes::{Axes, coordinate};
@@ -56,13 +56,13 @@ impl Arithmetic for Whole {
 
     ghost quadric_holds = { λ leg at node range. whole_quadric_holds leg at node };
 
-    ghost sum_holds = { Prim.search rules };
+    ghost sum_holds = { λ at u v F G h k. ap₂ whole_sum h k };
 
-    ghost lesser_holds = { Prim.search rules };
+    ghost lesser_holds = { λ at u v F G h k. ap₂ whole_lesser h k };
 
-    ghost greater_holds = { Prim.search rules };
+    ghost greater_holds = { λ at u v F G h k. ap₂ whole_greater h k };
 
-    ghost opposite_holds = { Prim.search rules };
+    ghost opposite_holds = { λ at u F h. ap whole_opposite h };
 
     ghost all_small = { λ nodes formed leg at i i<. whole_small nodes formed leg at i i< };
 

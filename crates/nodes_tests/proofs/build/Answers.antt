@@ -22,7 +22,7 @@ loop-i-preserved c =
     let whole : c.loop-i.i - 0 ≡ c.loop-i.i = omega arith in
     subst WellFormed
     (ap (λ (n : ℕ). take n nodes ++ (get_or nodes i no_node ∷ [])) whole ∙ sym (take-suc nodes i no_node c.loop-i-test.true) ∙ ap (λ (n : ℕ). take n nodes) (sym (add-one i)))
-    c.in-ok-validate.ensures.value.1
+    c.in_ok-validate.ensures.value.1
 
 pub returns : goal.returns
 returns c = (c.if-nodes-gt64.false, subst WellFormed (take_all c.loop-i.i c.args.nodes.now c.loop-i-test.false) c.loop-i.invariant)
