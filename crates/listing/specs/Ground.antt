@@ -3,7 +3,7 @@ use Rattle.std.specs.Prelude.{◌≡◌, ℕ, cond, List, length, Some, None, Ok
 use Rattle.refusal.specs.declared.Fault.{Fault}
 use Rattle.refusal.specs.Numbers.{fault}
 use Rattle.lattice.specs.Meaning.{terrain_of}
-use Rattle.terrain.specs.declared.lattice.Lattice.{Lattice}
+use Rattle.terrain.specs.declared.grid.Lattice.{Lattice}
 use Rattle.terrain.specs.Rows.{heights_of, file_refusal, file_heights}
 use Rattle.sheet.specs.Kept.{Joint, alone, first}
 use Rattle.loading.specs.declared.error.LoadError.{LoadError}
@@ -18,10 +18,10 @@ ground_from bytes =
 -- what the code joins
 abbrev pub joint_of : Option Lattice → Joint
 joint_of None = alone
-joint_of (Some lattice) = first (terrain_of (heights_of (vec_items lattice.heights)))
+joint_of (Some Lattice) = first (terrain_of (heights_of (vec_items Lattice.heights)))
 
 -- the lattice or the fault is the one that the bytes hold; want of memory says nothing
 abbrev pub Grounds : List ℕ → Result (Option Lattice) LoadError → Type 0
-Grounds bytes (Ok lattice) = ground_from bytes ≡ Ok (joint_of lattice)
+Grounds bytes (Ok Lattice) = ground_from bytes ≡ Ok (joint_of Lattice)
 Grounds bytes (Err (errors.Fault file f)) = (ground_from bytes ≡ Err f) × (file ≡ 3)
 Grounds bytes (Err errors.NoMemory) = Unit {0}

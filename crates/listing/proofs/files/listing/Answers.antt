@@ -10,7 +10,7 @@ returns-in-Ok c = record {
 
 pub returns-in-Err : goal.returns-in-Err
 returns-in-Err c = record {
-  exact = error_listed c.args.nodes.now c.args.areas.now c.args.terrain.now c.args.legs.now c.in-Err.error c.error-output.result c.in-Err.ensures c.error-output.ensures;
+  exact = error_listed c.args.nodes.now c.args.areas.now c.args.terrain.now c.args.legs.now c.in-Err.error c.error_output.result c.in-Err.ensures c.error_output.ensures;
   kept = rows_kept c.args.nodes.now c.args.areas.now c.args.terrain.now;
   same = same_listing c.args.nodes.now c.args.areas.now c.args.terrain.now c.args.legs.now;
 }

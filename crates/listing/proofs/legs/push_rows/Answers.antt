@@ -19,9 +19,9 @@ loop-standing-preserved c =
     let Past : Option (List ℤ) → Type 0 = λ o. Stands (Ok o) (length (first_line (drop rows.at rows.text.now))) rows.at rows.line last.at last.line in
     let stands = subst Past c.in-Some.is c.in-Ok.ensures.stands in
     let size = ap length c.in-Ok.ensures.text in
-    let number = ap (λ (n : ℕ). vec_items c.loop-standing.out ++ row_text joint sheet (n - 2) c.in-Some.row) c.lines-read-number.ensures in (
+    let number = ap (λ (n : ℕ). vec_items c.loop-standing.out ++ row_text joint sheet (n - 2) c.in-Some.row) c.lines_read-number.ensures in (
       sym (ap (λ (r : Reading). r.stop) goes) ∙ inv.0,
-      row_more joint sheet rows.line last.line inv.2 stands.1 _ _ _ c.in-Some.row _ _ (ap (λ (r : Reading). r.rows) goes) (c.in-ok-push-row.ensures ∙ number) inv.1,
+      row_more joint sheet rows.line last.line inv.2 stands.1 _ _ _ c.in-Some.row _ _ (ap (λ (r : Reading). r.rows) goes) (c.in_ok-push_row.ensures ∙ number) inv.1,
       omega (arith, stands.1),
       omega (arith, inv.3),
     )

@@ -11,18 +11,18 @@ use Rattle.listing.proofs.positions.position_at.Goals as goal
 piece-in : (s : ℤ) (k : ℕ) → s ≡ pos k → k ≤ 2048 → Within s (pos 2048)
 piece-in s k e h = subst (λ (x : ℤ). Within x (pos 2048)) (sym e) (within_from (pos k) (pos 2048) (omega (arith, ints)) (omega (arith, ints)))
 
-pub overflow-mul-b : goal.overflow-mul-b
-overflow-mul-b c = fits (is_move c.args.a c.args.b c.from.result c.requires.0 c.requires.1.0 (piece-in _ _ c.from.ensures c.requires.1.1)) tt
+pub overflow_mul-b : goal.overflow_mul-b
+overflow_mul-b c = fits (is_move c.args.a c.args.b c.from.result c.requires.0 c.requires.1.0 (piece-in _ _ c.from.ensures c.requires.1.1)) tt
 
-pub overflow-add-a : goal.overflow-add-a
-overflow-add-a c = fits (is_scaled c.args.a c.args.b c.from.result c.requires.0 c.requires.1.0 (piece-in _ _ c.from.ensures c.requires.1.1)) tt
+pub overflow_add-a : goal.overflow_add-a
+overflow_add-a c = fits (is_scaled c.args.a c.args.b c.from.result c.requires.0 c.requires.1.0 (piece-in _ _ c.from.ensures c.requires.1.1)) tt
 
 pub rounded-requires : goal.rounded-requires
 rounded-requires c = within (is_stored (is_scaled c.args.a c.args.b c.from.result c.requires.0 c.requires.1.0 (piece-in _ _ c.from.ensures c.requires.1.1)) tt) tt
 
 pub returns : goal.returns
 returns c =
-    kept c.rounded.type-inv
+    kept c.rounded.type_inv
     ∙ c.rounded.ensures.value
     ∙ ap rounded ((is_stored (is_scaled c.args.a c.args.b c.from.result c.requires.0 c.requires.1.0 (piece-in _ _ c.from.ensures c.requires.1.1)) tt).same
     ∙ ap (λ (s : ℤ). pos 2048 *ℤ c.args.a +ℤ (c.args.b -ℤ c.args.a) *ℤ s) c.from.ensures)

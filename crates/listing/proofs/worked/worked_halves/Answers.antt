@@ -5,6 +5,6 @@ use Rattle.listing.proofs.worked.worked_halves.Goals as goal
 
 pub returns : goal.returns
 returns c =
-    let up = kept c.rounded.type-inv ∙ c.rounded.ensures.value in
-    let down = kept c.rounded-2.type-inv ∙ c.rounded-2.ensures.value in
+    let up = kept c.rounded.type_inv ∙ c.rounded.ensures.value in
+    let down = kept c.rounded-2.type_inv ∙ c.rounded-2.ensures.value in
     record { value = λ i. up i ∷ down i ∷ []; worked = worked_cases }
