@@ -1,11 +1,11 @@
 -- Forms on a piece of a leg are the forms of the nodes there, and none is too large.
 use Rattle.std.specs.Prelude.{◌≡◌, ℕ, ◌<◌, ◌≤◌, List, length, ℤ, pos, negsuc, ◌+ℤ◌, ◌-ℤ◌, ◌*ℤ◌, refl}
-use Rattle.std.proofs.Common.{sym, ap, subst, ◌∙◌, arith}
-use Rattle.std.proofs.lemmas.Int.{ints}
+use Rattle.std.proofs.Common.{sym, ap, subst, ◌∙◌}
+use Rattle.std.proofs.Math.Nat.{le_of_lt}
 use Rattle.integer.specs.Numbers.{Within}
 use Rattle.integer.proofs.Ring.{ring, ◌:+◌, ◌:-◌, ◌:*◌, con, ◌:=◌}
 use Rattle.integer.proofs.Order.{natural≥0}
-use Rattle.integer.proofs.Absolute.{within_self, within_wider, within_from}
+use Rattle.integer.proofs.Absolute.{within_self, within_wider, within_natural}
 use Rattle.integer.proofs.Machine.{Is, within, is, is_difference, is_product}
 use Rattle.leg.specs.declared.shapes.Leg.{Leg}
 use Rattle.leg.specs.declared.shapes.Piece.{Piece}
@@ -30,10 +30,10 @@ use Rattle.nodes.specs.Every.{piece_spans, ends_within, meaning, node_lawful, fo
 -- ---- the coordinates
 
 pub middle≤ : (piece : Piece) → piece.middle ≤ 4096
-middle≤ piece = let h = piece.made.3 in omega arith
+middle≤ piece = le_of_lt piece.made.3
 
 pub half_in : (piece : Piece) → Within (pos piece.half) (pos 2048)
-half_in piece = let h = width_limit piece.half piece.made.1 in within_from (pos piece.half) (pos 2048) (omega (arith, ints)) (omega (arith, ints))
+half_in piece = within_natural (pos piece.half) 2048 (width_limit piece.half piece.made.1)
 
 line_bounded : {x k : ℤ} → Within x (pos 16777216) → Within k (pos 16777216) → Bounded 16777216 (line_of x k)
 line_bounded v w = record { first = v; second = w; third = within_wider (within_self (natural≥0 0)) (natural≥0 16777216) }
