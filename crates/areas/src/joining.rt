@@ -24,8 +24,8 @@ pub(crate) trait Joining {
 
 // One slot more.
 fn with_slot<J: Joining>(joining: &J, so_far: J::Answer, slot: &Option<Area>) -> J::Answer
-    requires { CanJoin (can joining.now) so_far slot.now }
-    ensures { result ≡ joined (join joining.now) (given joining.now) so_far slot.now }
+    requires { CanJoin (J.can joining.now) so_far slot.now }
+    ensures { result ≡ joined (J.join joining.now) (J.given joining.now) so_far slot.now }
 {
     match slot {
         Some(area) => {
@@ -41,8 +41,8 @@ fn with_slot<J: Joining>(joining: &J, so_far: J::Answer, slot: &Option<Area>) ->
 
 // All slots, in their order.
 pub(crate) fn unite<J: Joining>(joining: &J, start: J::Answer, slots: &[Option<Area>]) -> J::Answer
-    requires { AllCanJoin (can joining.now) (join joining.now) (given joining.now) start slots.now }
-    ensures { result ≡ united (join joining.now) (given joining.now) start slots.now }
+    requires { AllCanJoin (J.can joining.now) (J.join joining.now) (J.given joining.now) start slots.now }
+    ensures { result ≡ united (J.join joining.now) (J.given joining.now) start slots.now }
 {
     let mut so_far = start;
     for (_number, slot) in slots.iter().enumerate() {

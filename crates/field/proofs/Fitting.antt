@@ -1,5 +1,5 @@
 -- That the numbers of a lawful field, and what the layers make of them, fit 64 bits. All of it follows from the laws.
-use Rattle.std.proofs.Common.{◌≡◌, ℕ, ◌+◌, ◌*◌, ◌<◌, ◌≤◌, ℤ, pos, ◌+ℤ◌, ◌-ℤ◌, ◌*ℤ◌, neg_ℤ, ◌≤ℤ◌, sym, refl, ap, ◌∙◌, subst, ap₂, arith, w64, SFits}
+use Rattle.std.proofs.Common.{◌≡◌, ℕ, ◌<◌, ◌≤◌, ℤ, pos, ◌+ℤ◌, ◌-ℤ◌, ◌*ℤ◌, ◌≤ℤ◌, sym, ap, ◌∙◌, subst, ap₂, arith, w64, SFits}
 use lib.IntN.{*ℤ_comm}
 use lib.Signed.{mag}
 use borrow.Author.Differences.{ints}
@@ -8,7 +8,7 @@ use Rattle.integer.specs.Numbers.{Within}
 use Rattle.integer.proofs.Order.{≤ℤ_trans, times≤}
 use Rattle.integer.proofs.Absolute.{under, over, within_from}
 use Rattle.integer.proofs.Extremes.{max_least}
-use Rattle.integer.proofs.Machine.{stored, kept, fits_is, stored_is, within_fits}
+use Rattle.integer.proofs.Machine.{stored, kept, fits_is, stored_is}
 use Rattle.leg.specs.declared.shapes.Leg.{Leg}
 use Rattle.leg.specs.Ranges.{IsPiece}
 use Rattle.leg.specs.Places.{OnLeg}

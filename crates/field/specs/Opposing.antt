@@ -1,8 +1,7 @@
 -- The outside of a lawful field is a lawful field.
-use Rattle.std.specs.Prelude.{◌≡◌, ℕ, ℤ, pos, ◌+ℤ◌, ◌-ℤ◌, ◌*ℤ◌, neg_ℤ, refl}
-use Rattle.std.proofs.Common.{sym, ap, ◌∙◌, arith}
-use Rattle.std.proofs.lemmas.Int.{ints}
-use Rattle.integer.specs.Numbers.{Within, absℤ}
+use Rattle.std.specs.Prelude.{◌≡◌, ℤ, pos, ◌+ℤ◌, ◌-ℤ◌, ◌*ℤ◌, neg_ℤ, refl}
+use Rattle.std.proofs.Common.{sym, ap, ◌∙◌}
+use Rattle.integer.specs.Numbers.{absℤ}
 use Rattle.integer.proofs.Ring.{ring, ◌:+◌, ◌:-◌, neg, ◌:=◌}
 use Rattle.integer.proofs.Laws.{*ℤ_neg_left}
 use Rattle.integer.proofs.Absolute.{abs_neg, within_same, within_neg}

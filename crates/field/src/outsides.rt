@@ -19,8 +19,8 @@ pub struct Outside<F> {
 impl<F: Field> Outside<F> {
     // Whether the outside is a field. It reaches as far as its part, so it is.
     pub fn fits(part: &F) -> Result<(), Refusal>
-        requires { lawful part.now }
-        ensures { MatchResult result (λ _. InLimit (outside_of (meaning part.now))) (λ _. ⊥) }
+        requires { F.lawful part.now }
+        ensures { MatchResult result (λ _. InLimit (outside_of (F.meaning part.now))) (λ _. ⊥) }
     {
         in_limit(part.reach())
     }

@@ -1,13 +1,11 @@
 -- A field with one value everywhere.
-use Rattle.std.specs.Prelude.{◌≡◌, ℕ, ℤ, pos, ◌+ℤ◌, ◌-ℤ◌, ◌*ℤ◌, ◌≤ℤ◌, refl}
-use Rattle.std.proofs.Common.{sym, ap, ◌∙◌, arith}
+use Rattle.std.specs.Prelude.{ℤ, pos, ◌-ℤ◌, ◌*ℤ◌, ◌≤ℤ◌, refl}
+use Rattle.std.proofs.Common.{arith}
 use Rattle.std.proofs.lemmas.Int.{ints}
 use Rattle.integer.specs.Numbers.{Within, absℤ}
 use Rattle.integer.proofs.Ring.{ring, ◌:+◌, ◌:-◌, ◌:*◌, con, ◌:=◌}
-use Rattle.integer.proofs.Order.{natural≥0, weaker, product≥1, product≥0}
-use Rattle.integer.proofs.Absolute.{abs≥0, within_abs, within_same, within_self, within_product, within_from, abs_least}
-use Rattle.affine.specs.declared.Form.{Form}
-use Rattle.affine.specs.Forms.{low_end, high_end}
+use Rattle.integer.proofs.Order.{weaker, product≥1, product≥0}
+use Rattle.integer.proofs.Absolute.{abs≥0, within_abs, within_same, within_self, within_product, within_from}
 use Rattle.field.specs.Meaning.{Meaning, Laws, reach_bound}
 
 abbrev pub level_meaning : ℤ → Meaning

@@ -1,14 +1,11 @@
 -- A field with the straight border x = a: how far the leg is east of it, in scaled tenths of a mile.
-use Rattle.std.specs.Prelude.{◌≡◌, ℕ, ◌≤◌, ℤ, pos, ◌+ℤ◌, ◌-ℤ◌, ◌*ℤ◌, neg_ℤ, nat_abs, ◌≤ℤ◌, refl}
+use Rattle.std.specs.Prelude.{◌≡◌, ℕ, ℤ, pos, ◌+ℤ◌, ◌-ℤ◌, ◌*ℤ◌, neg_ℤ, ◌≤ℤ◌, refl}
 use Rattle.std.proofs.Common.{sym, ap, ◌∙◌, arith}
 use Rattle.std.proofs.lemmas.Int.{ints}
 use Rattle.integer.specs.Numbers.{Within, absℤ}
 use Rattle.integer.proofs.Ring.{ring, ◌:+◌, ◌:-◌, ◌:*◌, con, neg, ◌:=◌}
 use Rattle.integer.proofs.Order.{natural≥0, gap, weaker, product≥1, product≥0}
-use Rattle.integer.proofs.Absolute.{abs≥0, abs_of, abs_product, abs_least, within_abs, within_same, within_self, within_neg, within_sum, within_product, within_natural}
-use Rattle.leg.specs.declared.shapes.Leg.{Leg}
-use Rattle.affine.specs.declared.Form.{Form}
-use Rattle.affine.specs.Forms.{low_end, high_end}
+use Rattle.integer.proofs.Absolute.{abs≥0, abs_product, abs_least, within_same, within_self, within_neg, within_sum, within_product, within_natural}
 use Rattle.field.specs.Meaning.{Meaning, Laws}
 
 -- q times the distance at p, q of a leg that goes from x1 to x2, for c = x1 − a and d = x2 − x1

@@ -1,5 +1,5 @@
 -- The ranges that a leg keeps to, as bounds.
-use Rattle.std.proofs.Common.{ℤ, pos, negsuc, ◌≤ℤ◌}
+use Rattle.std.proofs.Common.{pos, negsuc, ◌≤ℤ◌}
 use Rattle.integer.specs.Numbers.{Within}
 use Rattle.integer.proofs.Absolute.{within_natural}
 use Rattle.leg.specs.declared.shapes.Leg.{Leg}

@@ -1,6 +1,6 @@
 -- The Lipschitz law of terrain: the values at any two places of a leg differ by at most L times their distance in half-steps. So one fraction has one value.
 use Rattle.std.proofs.Common.{◌≡◌, ℕ, ℤ, pos, ◌+ℤ◌, ◌-ℤ◌, ◌*ℤ◌, neg_ℤ, ◌≤ℤ◌, sym, refl, ap, ◌∙◌, ap₂, lit≤}
-use Rattle.integer.proofs.Absolute.{over, within_same, within_self, within_abs, abs≥0, within_sum, within_product, within_neg, abs_product, within_wider, bound≥0}
+use Rattle.integer.proofs.Absolute.{within_same, within_self, within_abs, abs≥0, within_sum, within_product, within_neg, abs_product, within_wider, bound≥0}
 use Rattle.integer.proofs.Order.{sum≥0, product≥0, weaker, by_gap, natural≥0}
 use Rattle.integer.proofs.Ring.{ring, ◌:+◌, ◌:-◌, ◌:*◌, con, neg, ◌:=◌}
 use Rattle.integer.specs.Numbers.{Within, absℤ}

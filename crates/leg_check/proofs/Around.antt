@@ -1,11 +1,10 @@
 -- The piece of a given half-width that a half-step lies in.
-use Rattle.std.proofs.Common.{◌≡◌, ℕ, zero, suc, ◌+◌, ◌-◌, ◌*◌, ◌/◌, ◌%◌, ◌^◌, ◌<◌, ◌≤◌, sym, refl, ap, ◌∙◌, subst, mul-le-mul_right, mod-lt, mul_assoc, mul_comm, add-mul, lt_of_mul-lt-mul_right, mul-le-mul_left, div-add-mod', mul-one, mul-add, div-mul-le_self, arith, pow_pos, pow_mono, pow-add}
-use native.Mathlib.Nat.{two-pow-succ, div-add-mod, div-eq_of_lt-le}
+use Rattle.std.proofs.Common.{◌≡◌, ℕ, ◌+◌, ◌-◌, ◌*◌, ◌/◌, ◌%◌, ◌^◌, ◌<◌, ◌≤◌, sym, ap, ◌∙◌, mul-le-mul_right, mod-lt, mul_assoc, mul_comm, add-mul, lt_of_mul-lt-mul_right, mul-le-mul_left, mul-one, mul-add, div-mul-le_self, arith, pow_pos, pow_mono, pow-add}
+use native.Mathlib.Nat.{div-add-mod, div-eq_of_lt-le}
 use native.Mathlib.Decide.{dec_le}
 use lib.Arith.{digits_mod}
 use Rattle.leg.specs.Ranges.{IsPiece}
 use Rattle.leg_check.specs.Relation.{Contains}
-use Rattle.leg.proofs.Halving.{level_of}
 
 -- The middle of the piece of half-width r that the half-step x lies in.
 abbrev pub around : ℕ → ℕ → ℕ

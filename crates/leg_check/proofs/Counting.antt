@@ -1,5 +1,5 @@
 -- A count over the pieces of a leg counts each piece once.
-use Rattle.std.proofs.Common.{◌≡◌, ℕ, zero, suc, ◌+◌, ◌-◌, ◌*◌, ◌/◌, ◌%◌, ◌^◌, ◌<◌, ◌≤◌, Bool, true, false, ◌&&◌, eqb, sym, refl, ap, ◌∙◌, subst, add-zero, mul_assoc, add-mul, div-add-mod', arith, pow_pos, pow-add}
+use Rattle.std.proofs.Common.{◌≡◌, ℕ, zero, suc, ◌+◌, ◌-◌, ◌*◌, ◌/◌, ◌%◌, ◌^◌, ◌<◌, ◌≤◌, false, eqb, sym, ap, ◌∙◌, subst, add-zero, mul_assoc, add-mul, div-add-mod', arith, pow_pos, pow-add}
 use native.Mathlib.Nat.{two-pow-succ}
 use native.Mathlib.Decide.{dec_le}
 use lib.Arith.{digits_mod}
@@ -9,7 +9,7 @@ use Rattle.leg.specs.Ranges.{IsPiece}
 use Rattle.leg.proofs.Halving.{level_of}
 use Rattle.leg.proofs.Shaping.{piece_span}
 use Rattle.leg_check.specs.Relation.{passing, only}
-use Rattle.leg_check.proofs.Around.{around, around_is}
+use Rattle.leg_check.proofs.Around.{around_is}
 use Rattle.leg_check.proofs.Relations.{first_piece, second_piece, none_pass, one_if}
 
 -- a piece is not about the middle of a larger one, which is an even multiple of its half-width

@@ -1,5 +1,5 @@
 -- What `judge` has to show of its verdict, from the tests on the way to it.
-use Rattle.std.proofs.Common.{◌≡◌, ℕ, ◌+◌, ◌-◌, ◌/◌, ◌<◌, Bool, true, false, ℤ, pos, sym, refl, ap, ◌∙◌, subst}
+use Rattle.std.proofs.Common.{◌≡◌, ℕ, ◌+◌, ◌-◌, ◌/◌, ◌<◌, Bool, true, false, ℤ, pos, sym, ap, ◌∙◌, subst}
 use lib.Signed.{lt_z, mag}
 use Rattle.integer.proofs.Machine.{stored, kept}
 use Rattle.leg.specs.declared.shapes.Leg.{Leg}

@@ -1,6 +1,5 @@
 -- What `check` ensures of its result is the outcome of the definition.
-use Rattle.std.proofs.Common.{◌≡◌, ℕ, ◌≤◌, Bool, true, false, cond, ℤ, pos, negsuc, nat_abs, ◌≤ℤ◌, Some, None, Ok, Err, Option, Result, sym, refl, ap, ◌∙◌, subst, arith}
-use mathlib.Core.Path.{fun_ext}
+use Rattle.std.proofs.Common.{◌≡◌, ℕ, ◌≤◌, Bool, true, false, cond, ℤ, ◌≤ℤ◌, Some, None, Ok, Err, Option, Result, sym, refl, ap, ◌∙◌, subst, arith}
 use mathlib.Core.HLevel.{is_prop→PathP, ⊥_prop, Π_prop}
 use native.Mathlib.Bridge.{le_prop}
 use lib.Dec.{T_prop}
@@ -10,7 +9,6 @@ use Rattle.leg.specs.Ranges.{InRange, Apart}
 use Rattle.leg.specs.Making.{points_on_map, is_same_point, leg_refusal, Joins}
 use Rattle.field.specs.Meaning.{Meaning, Laws}
 use Rattle.leg_check.specs.declared.verdict.Verdict.{Verdict}
-use Rattle.leg_check.specs.Halving.{check_of}
 use Rattle.leg_check.specs.Judging.{Judged}
 use Rattle.leg_check.specs.Outcome.{leg_where, outcome_by, outcome_of}
 use Rattle.leg_check.proofs.Judging.{shown}

@@ -1,9 +1,9 @@
 -- What `examine_of` comes to, by what its piece's bound says.
-use Rattle.std.proofs.Common.{◌≡◌, ℕ, zero, suc, ◌+◌, ◌-◌, ◌*◌, ◌/◌, ◌^◌, ◌<◌, ◌≤◌, Bool, true, false, ◌⊎◌, sym, refl, ap, ◌∙◌, subst, inl, inr, arith, pow_pos, pow_mono}
+use Rattle.std.proofs.Common.{◌≡◌, ℕ, zero, suc, ◌+◌, ◌-◌, ◌/◌, ◌^◌, ◌<◌, ◌≤◌, Bool, true, false, ◌⊎◌, sym, refl, ap, ◌∙◌, subst, inl, inr, arith, pow_pos, pow_mono}
 use native.Mathlib.Nat.{two-pow-succ}
 use Rattle.leg.specs.Ranges.{IsPiece}
 use Rattle.field.specs.Meaning.{Meaning}
-use Rattle.leg_check.specs.Halving.{clears, bounds_of, counted, and_then, examine_of}
+use Rattle.leg_check.specs.Halving.{clears, bounds_of, and_then, examine_of}
 use Rattle.leg.specs.declared.shapes.Leg.{Leg}
 use Rattle.leg_check.specs.declared.verdict.Walk.{Walk}
 use Rattle.leg_check.specs.declared.verdict.Walk.TheVariants.{Cleared, Stopped}

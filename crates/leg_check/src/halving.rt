@@ -21,8 +21,8 @@ fn above_zero(x: i64) -> bool
 
 // Whether the bound on a piece clears it.
 fn cleared<F: Field>(field: &F, leg: &Leg, piece: Piece) -> bool
-    requires { lawful field.now }
-    ensures { result ≡ clears (meaning field.now) leg.now piece.middle piece.half }
+    requires { F.lawful field.now }
+    ensures { result ≡ clears (F.meaning field.now) leg.now piece.middle piece.half }
 {
     let bound = field.bound(leg, piece);
     above_zero(bound.low())
@@ -48,8 +48,8 @@ impl Walk {
 
 // A piece that its bound clears is done. Of any other the first half is examined, and then the second unless the first stopped the walk; a finest one stops it.
 fn examine<F: Field>(field: &F, leg: &Leg, piece: Piece) -> Walk
-    requires { lawful field.now }
-    ensures exact { (n : ℕ) → piece.half ≡ 2 ^ n → result ≡ examine_of (meaning field.now) leg.now n piece.middle }
+    requires { F.lawful field.now }
+    ensures exact { (n : ℕ) → piece.half ≡ 2 ^ n → result ≡ examine_of (F.meaning field.now) leg.now n piece.middle }
     ensures few { bounds_of result < 4096 }
 {
     if cleared(field, leg, piece) {
@@ -73,10 +73,10 @@ fn examine<F: Field>(field: &F, leg: &Leg, piece: Piece) -> Walk
 
 // Inside if the start is, and else as the walk over the whole leg ends.
 fn judge<F: Field>(field: &F, leg: &Leg) -> Verdict
-    requires { lawful field.now }
-    ensures exact { result ≡ check_of (meaning field.now) leg.now }
-    ensures relation { Relation ((meaning field.now).value leg.now) (clears (meaning field.now) leg.now) (row_of result) }
-    ensures promise { Promise ((meaning field.now).value leg.now) ((meaning field.now).steepness leg.now) (row_of result) }
+    requires { F.lawful field.now }
+    ensures exact { result ≡ check_of (F.meaning field.now) leg.now }
+    ensures relation { Relation ((F.meaning field.now).value leg.now) (clears (F.meaning field.now) leg.now) (row_of result) }
+    ensures promise { Promise ((F.meaning field.now).value leg.now) ((F.meaning field.now).steepness leg.now) (row_of result) }
 {
     if !above_zero(field.value(leg, HalfStep { at: 0 })) {
         return Verdict::Inside;
@@ -104,8 +104,8 @@ pub fn check<F: Field>(
     y2: i64,
     z2: i64,
 ) -> Result<Verdict, Refusal>
-    requires { lawful field.now }
-    ensures { MatchResult result (λ v. Judged (meaning field.now) x1 y1 z1 x2 y2 z2 v) (λ e. number_of e ≡ leg_refusal x1 y1 z1 x2 y2 z2) }
+    requires { F.lawful field.now }
+    ensures { MatchResult result (λ v. Judged (F.meaning field.now) x1 y1 z1 x2 y2 z2 v) (λ e. number_of e ≡ leg_refusal x1 y1 z1 x2 y2 z2) }
 {
     let leg = Leg::new(x1, y1, z1, x2, y2, z2)?;
     Ok(judge(field, &leg))

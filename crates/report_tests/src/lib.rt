@@ -81,7 +81,7 @@ mod tests {
         let told =
             b"nodes.txt\ncolumns as written: kind a b px py pz sx sy sz lx ly lz k\nkind a b px py pz sx sy sz lx ly lz k\nareas.txt\ncolumns as written: on area node\narea node on\n3 -7 1\n4 2147483647 0\nterrain.bin\n3 bytes\nlegs.txt\ncolumns as written: x1 y1 z1 x2 y2 z2\nx1 y1 z1 x2 y2 z2\n";
         assert!(rt; !output.faulty);
-        assert!(rt; output.text.as_slice() == told);
+        assert!(rt; output.text.as_slice() == told.as_slice());
         Ok(())
     }
 }

@@ -1,9 +1,9 @@
 -- One rearrangement of the columns moves each name and its value together.
 use Rattle.std.proofs.Common.{◌≡◌, ℕ, zero, suc, ◌+◌, ◌<◌, ◌≤◌, eqb, ltb, List, [], ◌∷◌, map, length, get_or, Some, None, sym, ap, ◌∙◌, ⊎_elim, arith}
 use Rattle.std.specs.Str.{bytes_eq}
-use Rattle.std.proofs.ByRecursion.{All-get_or}
 use Rattle.std.proofs.lemmas.Slice.Eq.{bytes_eq-Decides}
 use Rattle.std.proofs.lemmas.List.{length-map, get_or-map, get_or_past}
+use Rattle.std.proofs.lemmas.List.Elements.{at_from_Contains}
 use Rattle.std.proofs.lemmas.Bool.{cond-true, cond-false, cond_both, cases_Bool, cases_lt, and_parts, eqb-true}
 use Rattle.table.specs.Names.{place_in}
 use Rattle.table.specs.Reading.{first_not, good_name, value_of, filled, row_under}
@@ -53,7 +53,7 @@ module _ (n : ℕ) (places : List ℕ) (r : Rearrangement n places) (heads fs : 
   len_moved gs = length-map places (λ k. get_or gs k []) ∙ r.0
 
   inside : (q : ℕ) → q < n → get_or places q 0 < n
-  inside q h = let l = r.0 in All-get_or (λ k. k < n) places q 0 (omega arith) r.1
+  inside q h = let l = r.0 in r.1 q 0 (omega arith)
 
   -- where the moved names have it, there the places say where it stood
   same_place : place_in (moved places heads) name < n → place_in heads name ≡ get_or places (place_in (moved places heads) name) 0
@@ -67,7 +67,7 @@ module _ (n : ℕ) (places : List ℕ) (r : Rearrangement n places) (heads fs : 
   kept : place_in heads name < n → place_in (moved places heads) name < n
   kept h =
       let p = place_in heads name in
-      let i = r.2 p h in
+      let i = at_from_Contains places p (r.2 p h) in
       let l = len_moved heads in
       let lp = r.0 in
       let lt : i.0 < n = omega (arith, i.1) in

@@ -1,6 +1,5 @@
 -- An accepted text has a row for each line feed but the first.
 use Rattle.std.proofs.Common.{◌≡◌, ℕ, zero, suc, ◌+◌, ◌<◌, true, false, cond, eqb, List, [], ◌∷◌, length, drop, ℤ, Some, None, Ok, Err, Option, Result, sym, refl, ap, ◌∙◌, subst, arith, length-drop}
-use Rattle.std.proofs.lemmas.Bool.{cond_both}
 use Rattle.refusal.specs.declared.Fault.{Fault}
 use Rattle.table.specs.declared.table.Table.{Table}
 use Rattle.table.specs.Text.{onto, parts, lines, feeds}

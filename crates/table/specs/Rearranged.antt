@@ -1,6 +1,6 @@
 -- Two texts whose lines have the same fields up to one rearrangement of the columns.
-use Rattle.std.specs.Prelude.{◌≡◌, ℕ, ◌<◌, List, [], ◌∷◌, map, length, None, slice_index_or}
-use Rattle.std.specs.List.{AllZip, ContainsAt as Has, AllByRecursion as All}
+use Rattle.std.specs.Prelude.{◌≡◌, ℕ, ◌<◌, List, [], ◌∷◌, map, length, None, All, Contains, slice_index_or}
+use Rattle.std.specs.List.{AllZip}
 use Rattle.table.specs.declared.table.Table.{Table}
 use Rattle.table.specs.Text.{fields, lines}
 use Rattle.table.specs.Names.{column_names}
@@ -14,7 +14,7 @@ ending (l ∷ m ∷ ls) = l ∷ ending (m ∷ ls)
 
 -- the places below n, each at least once, n in all
 abbrev pub Rearrangement : ℕ → List ℕ → Type 0
-Rearrangement n places = (length places ≡ n) × All (λ k. k < n) places × ((k : ℕ) → k < n → Has places k)
+Rearrangement n places = (length places ≡ n) × All (λ k. k < n) places × ((k : ℕ) → k < n → Contains places k)
 
 -- line m has the fields of line l at these places
 abbrev pub Moved : List ℕ → List ℕ → List ℕ → Type 0

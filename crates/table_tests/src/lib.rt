@@ -281,7 +281,7 @@ mod tests {
     #[test]
     fn lines(rt: HostRuntime) -> Result<(), Fail> {
         let opened = Opened::new(Table::Areas, b"on area node\n1 3 0\n")?;
-        assert!(rt; opened.line()? == b"on area node");
+        assert!(rt; opened.line()? == b"on area node".as_slice());
         let names = opened.names()?;
         let mut rows = opened.rows(names);
         assert!(rt; rows.line()? == Some(b"1 3 0"));

@@ -35,29 +35,29 @@ length_push : (xs : List ℤ) (x : ℤ) → length (xs ++ x ∷ []) ≡ suc (len
 length_push [] x = refl
 length_push (y ∷ ys) x = ap suc (length_push ys x)
 
-get_d_push : (xs : List ℤ) (x : ℤ) → get_or (xs ++ x ∷ []) (length xs) (pos 0) ≡ x
-get_d_push [] x = refl
-get_d_push (y ∷ ys) x = get_d_push ys x
+get_or_push : (xs : List ℤ) (x : ℤ) → get_or (xs ++ x ∷ []) (length xs) (pos 0) ≡ x
+get_or_push [] x = refl
+get_or_push (y ∷ ys) x = get_or_push ys x
 
-get_d_before : (xs : List ℤ) (x : ℤ) (k : ℕ) → k < length xs → get_or (xs ++ x ∷ []) k (pos 0) ≡ get_or xs k (pos 0)
-get_d_before [] x k k< = absurd (omega arith)
-get_d_before (y ∷ ys) x zero k< = refl
-get_d_before (y ∷ ys) x (suc k) k< = get_d_before ys x k (omega arith)
+get_or_before : (xs : List ℤ) (x : ℤ) (k : ℕ) → k < length xs → get_or (xs ++ x ∷ []) k (pos 0) ≡ get_or xs k (pos 0)
+get_or_before [] x k k< = absurd (omega arith)
+get_or_before (y ∷ ys) x zero k< = refl
+get_or_before (y ∷ ys) x (suc k) k< = get_or_before ys x k (omega arith)
 
 length_listed : (n : ℕ) (f : ℕ → ℤ) → length (listed n f) ≡ n
 unfolding listed
 length_listed zero f = refl
 length_listed (suc n) f = length_push (listed n f) (f n) ∙ ap suc (length_listed n f)
 
-get_d_listed : (n : ℕ) (f : ℕ → ℤ) (k : ℕ) → k < n → get_or (listed n f) k (pos 0) ≡ f k
+get_or_listed : (n : ℕ) (f : ℕ → ℤ) (k : ℕ) → k < n → get_or (listed n f) k (pos 0) ≡ f k
 unfolding listed
-get_d_listed zero f k k< = absurd (omega arith)
-get_d_listed (suc n) f k k< =
+get_or_listed zero f k k< = absurd (omega arith)
+get_or_listed (suc n) f k k< =
     ⊎_elim
-    (λ below. get_d_before (listed n f) (f n) k (subst (λ (l : ℕ). k < l) (sym (length_listed n f)) below) ∙ get_d_listed n f k below)
+    (λ below. get_or_before (listed n f) (f n) k (subst (λ (l : ℕ). k < l) (sym (length_listed n f)) below) ∙ get_or_listed n f k below)
     (λ above. let same : k ≡ n = omega arith in
     subst (λ (m : ℕ). get_or (listed n f ++ f n ∷ []) m (pos 0) ≡ f m) (sym same)
-    (subst (λ (m : ℕ). get_or (listed n f ++ f n ∷ []) m (pos 0) ≡ f n) (length_listed n f) (get_d_push (listed n f) (f n))))
+    (subst (λ (m : ℕ). get_or (listed n f ++ f n ∷ []) m (pos 0) ≡ f n) (length_listed n f) (get_or_push (listed n f) (f n))))
     (cases_lt k n)
 
 module _ (bytes : List ℕ) (fit : file_refusal bytes ≡ 0) where
@@ -71,4 +71,4 @@ module _ (bytes : List ℕ) (fit : file_refusal bytes ≡ 0) where
   file_row_fits =
       cond-true (eqb (length (file_heights bytes)) 16641) _ _ (eq-eqb (length (file_heights bytes)) 16641 (length_listed 16641 (height_in_file bytes)))
       ∙ cond-true (every 16641 (λ (k : ℕ). in_range (get_or (file_heights bytes) k (pos 0)))) _ _
-      (every_same 16641 (λ (k : ℕ). in_range (get_or (file_heights bytes) k (pos 0))) (λ (k : ℕ). in_range (height_in_file bytes k)) (λ k k<. ap in_range (get_d_listed 16641 (height_in_file bytes) k k<)) ∙ tests.1)
+      (every_same 16641 (λ (k : ℕ). in_range (get_or (file_heights bytes) k (pos 0))) (λ (k : ℕ). in_range (height_in_file bytes k)) (λ k k<. ap in_range (get_or_listed 16641 (height_in_file bytes) k k<)) ∙ tests.1)

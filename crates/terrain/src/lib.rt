@@ -3,7 +3,7 @@
 
 mod bounds;
 mod cell;
-mod lattice;
+mod grid;
 mod making;
 mod places;
 mod rows;
@@ -11,5 +11,5 @@ mod steps;
 mod terrain;
 mod worked;
 
-pub use lattice::Lattice;
+pub use grid::Lattice;
 pub use worked::worked_value;

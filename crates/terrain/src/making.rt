@@ -5,7 +5,7 @@ ghost use Rattle.lattice.specs.Terrain.{greatest_step};
 ghost use Rattle.lattice.specs.Meaning.{SteepBetween};
 ghost use Rattle.terrain.specs.Rows.{heights_of, row_refusal, file_refusal, file_heights};
 
-use crate::lattice::Lattice;
+use crate::grid::Lattice;
 use crate::rows::{all_in_range, file_in_range, file_row};
 use crate::steps::largest_step;
 use refusal::Refusal;

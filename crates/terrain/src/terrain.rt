@@ -5,7 +5,7 @@ ghost use Rattle.terrain.specs.Rows.{heights_of};
 ghost use Rattle.terrain.specs.Fitting.{row_heights};
 
 use crate::bounds::{bound_at, steepness_at, value_at};
-use crate::lattice::Lattice;
+use crate::grid::Lattice;
 use affine::Form;
 use field::Field;
 use leg::{HalfStep, Leg, Piece};

@@ -9,6 +9,6 @@ returns c =
     let out = vec_items c.args.out.now in
     let before = vec_items c.push.new.self in
     five_parts out (name_of_file c.args.table) (codes "\ncolumns as written: ") c.args.line.now (10 ∷ []) (spaced (column_names c.args.table)) _ _ _ before _
-    (c.in-ok-extend-from-slice.ensures.items ∙ ap (λ (t : List ℕ). out ++ t) c.file-name.ensures)
-    c.in-ok-extend-from-slice-2.ensures.items c.in-ok-extend-from-slice-3.ensures.items c.in-ok-push.ensures.items
-    (c.in-ok-push-names.ensures ∙ ap (λ (ns : List (List ℕ)). before ++ spaced ns) c.names.ensures.bytes)
+    (c.in_ok-extend_from_slice.ensures.items ∙ ap (λ (t : List ℕ). out ++ t) c.file_name.ensures)
+    c.in_ok-extend_from_slice-2.ensures.items c.in_ok-extend_from_slice-3.ensures.items c.in_ok-push.ensures.items
+    (c.in_ok-push_names.ensures ∙ ap (λ (ns : List (List ℕ)). before ++ spaced ns) c.names.ensures.bytes)

@@ -1,4 +1,4 @@
-use Rattle.std.proofs.Common.{◌≡◌, ℕ, ◌+◌, ◌-◌, List, ◌++◌, map, length, take, drop, ℤ, Ok, vec_items, Option, sym, ap, ◌∙◌, subst, arith}
+use Rattle.std.proofs.Common.{◌≡◌, ℕ, ◌-◌, List, ◌++◌, map, length, take, drop, ℤ, Ok, vec_items, Option, sym, ap, ◌∙◌, subst, arith}
 use Rattle.std.specs.List.{flat_map}
 use Rattle.std.specs.Fmt.{signed_decimal}
 use Rattle.std.proofs.lemmas.List.{append_assoc}
@@ -18,7 +18,7 @@ loop-standing-preserved c =
     let more = left_of c.next.new.self in
     let goes = c.in-Ok.ensures.goes ∙ ap (λ (o : Option (List ℤ)). after (Ok o) more) c.in-Some.is in
     let size : c.args.columns - 0 ≡ length (column_names c.args.rows.now.table) = omega (arith, c.requires) in
-    let written = c.in-ok-push-values.ensures ∙ ap (λ (n : ℕ). out ++ spaced (map signed_decimal (take n row))) size in (
+    let written = c.in_ok-push_values.ensures ∙ ap (λ (n : ℕ). out ++ spaced (map signed_decimal (take n row))) size in (
       c.in-Ok.ensures.table ∙ inv.0,
       sym (ap (λ (r : Reading). r.stop) goes) ∙ inv.1,
       ap (λ (t : List ℕ). t ++ flat_map line more.rows) written ∙ append_assoc out (line row) (flat_map line more.rows) ∙ sym (ap (λ (r : Reading). out ++ flat_map line r.rows) goes) ∙ inv.2,

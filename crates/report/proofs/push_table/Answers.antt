@@ -22,9 +22,9 @@ returns c =
     let same : rows.table ≡ table = c.rows-rows.ensures.table ∙ n.1 ∙ o.2 in
     let line : c.in-Ok-line.line.now ≡ first_line text = sym (taken (length (column_names c.in-Ok.opened.table)) 1 (lines c.in-Ok.opened.text.now) c.in-Ok-line.line.now c.in-Ok-line.ensures.0).first ∙ ap first_line o.1 in
     let out = vec_items c.args.out.now in
-    let said = c.in-ok-fault.ensures in
-    let written = said.1 ∙ ap (λ (t : Table). vec_items c.push-heading.new.out ++ flat_map (row_line t) rest.rows) same
-    ∙ ap (λ (t : List ℕ). t ++ flat_map (row_line table) rest.rows) (c.in-ok-push-heading.ensures ∙ ap (λ (l : List ℕ). out ++ heading table l) line)
+    let said = c.in_ok-fault.ensures in
+    let written = said.1 ∙ ap (λ (t : Table). vec_items c.push_heading.new.out ++ flat_map (row_line t) rest.rows) same
+    ∙ ap (λ (t : List ℕ). t ++ flat_map (row_line table) rest.rows) (c.in_ok-push_heading.ensures ∙ ap (λ (l : List ℕ). out ++ heading table l) line)
     ∙ append_assoc out (heading table (first_line text)) (flat_map (row_line table) rest.rows)
     ∙ sym (ap (λ (r : Reading). out ++ (heading table (first_line text) ++ flat_map (row_line table) r.rows)) whole) in
     (said.0 ∙ sym (ap (λ (r : Reading). r.stop) whole), λ _. written)

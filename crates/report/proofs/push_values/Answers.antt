@@ -1,7 +1,6 @@
-use Rattle.std.proofs.Common.{ℕ, List, [], ◌++◌, map, get_or, pos, vec_items, sym, ap, ◌∙◌, arith}
+use Rattle.std.proofs.Common.{[], map, pos, vec_items, sym, ◌∙◌, arith}
 use Rattle.std.specs.Fmt.{signed_decimal}
 use Rattle.std.proofs.lemmas.List.{length-map, get_or-map}
-use Rattle.report.specs.Report.{lead}
 use Rattle.report.proofs.Lines.{field_more, line_all}
 use Rattle.report.proofs.push_values.Goals as goal
 
@@ -10,11 +9,11 @@ loop-i-preserved c =
     let values = c.args.values.now in
     let l = length-map values signed_decimal in
     let h = get_or-map signed_decimal values c.loop-i.i (pos 0) [] c.loop-i-test.true in
-    let text = c.as-bytes.ensures.value ∙ c.in-ok-digits.ensures.ok in
-    field_more (map signed_decimal values) c.loop-i.i (vec_items c.loop-i.out) _ _ c.loop-i.invariant c.as-bytes.result.now (omega arith) (h ∙ sym text) c.in-ok-push-field.ensures
+    let text = c.as_bytes.ensures.value ∙ c.in_ok-digits.ensures.ok in
+    field_more (map signed_decimal values) c.loop-i.i (vec_items c.loop-i.out) _ _ c.loop-i.invariant c.as_bytes.result.now (omega arith) (h ∙ sym text) c.in_ok-push_field.ensures
 
 pub returns : goal.returns
 returns c =
     let values = c.args.values.now in
     let l = length-map values signed_decimal in
-    line_all (map signed_decimal values) c.loop-i.i (vec_items c.loop-i.out) _ _ c.loop-i.invariant (omega arith) c.in-ok-push.ensures.items
+    line_all (map signed_decimal values) c.loop-i.i (vec_items c.loop-i.out) _ _ c.loop-i.invariant (omega arith) c.in_ok-push.ensures.items

@@ -8,10 +8,10 @@ returns-then-cleared g t c =
     walked (g.F.Field.meaning c.args.field.now) c.args.leg.now c.args.piece.middle c.args.piece.half c.args.piece.made
     (λ n e. cleared_step (g.F.Field.meaning c.args.field.now) c.args.leg.now n c.args.piece.middle c.args.piece.half e (sym c.cleared.ensures ∙ c.if-cleared.true))
 
-pub returns-in-default : goal.returns-in-default
-returns-in-default g t c =
+pub returns-in_default : goal.returns-in_default
+returns-in_default g t c =
     walked (g.F.Field.meaning c.args.field.now) c.args.leg.now c.args.piece.middle c.args.piece.half c.args.piece.made
-    (λ n e. finest_step (g.F.Field.meaning c.args.field.now) c.args.leg.now n c.args.piece.middle c.args.piece.half e c.in-default.ensures (sym c.cleared.ensures ∙ c.if-cleared.false))
+    (λ n e. finest_step (g.F.Field.meaning c.args.field.now) c.args.leg.now n c.args.piece.middle c.args.piece.half e c.in_default.ensures (sym c.cleared.ensures ∙ c.if-cleared.false))
 
 pub returns-in-Stopped : goal.returns-in-Stopped
 returns-in-Stopped g t c =

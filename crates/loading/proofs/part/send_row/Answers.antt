@@ -14,7 +14,7 @@ pub returns-in-Nodes : goal.returns-in-Nodes
 returns-in-Nodes c =
     let sheet = data_of c.args.sheet.now in
     let row = c.args.row.now in
-    let call : Add c.node-of.result ≡ call_of c.args.part row = ap (λ (node : Node). Add node) c.node-of.ensures ∙ sym (ap (λ (p : Part). call_of p row) c.in-Nodes.is) in
+    let call : Add c.node_of.result ≡ call_of c.args.part row = ap (λ (node : Node). Add node) c.node_of.ensures ∙ sym (ap (λ (p : Part). call_of p row) c.in-Nodes.is) in
     record { answer = c.add.ensures.answer ∙ ap (done sheet) call; after = c.add.ensures.after ∙ ap (after sheet) call }
 
 pub returns-in-Areas : goal.returns-in-Areas

@@ -27,28 +27,28 @@ pub returns-in-Err : goal.returns-in-Err
 returns-in-Err c =
     let rows = c.loop-row.rows in
     let last = c.next.new.self in
-    let given = c.in-ok-row.ensures in
-    let line = c.lines-read.ensures ∙ next-line rows last _ c.in-Some.row c.in-Some.is given.stands in
+    let given = c.in_ok-row.ensures in
+    let line = c.lines_read.ensures ∙ next-line rows last _ c.in-Some.row c.in-Some.is given.stands in
     let out : Fault → Result SheetData Fault = λ f. Err f in
     sym c.loop-row.invariant
     ∙ row_refused (call_of c.args.part) (data_of c.loop-row.sheet) c.in-Some.row (rows.line + 1) (to_read rows) (to_read last) (goes_on rows last _ _ c.in-Some.is given.goes)
-    c.in-Err.refusal c.lines-read.result c.in-Err.ensures.answer line
+    c.in-Err.refusal c.lines_read.result c.in-Err.ensures.answer line
     ∙ ap out (sym c.new.ensures)
 
 pub loop-row-preserved : goal.loop-row-preserved
 loop-row-preserved c =
     let rows = c.loop-row.rows in
     let last = c.next.new.self in
-    let given = c.in-ok-row.ensures in
+    let given = c.in_ok-row.ensures in
     let line = ap (λ (k : ℕ). k + 1) (next-line rows last _ c.in-Some.row c.in-Some.is given.stands) in
     sym (row_taken (call_of c.args.part) (data_of c.loop-row.sheet) c.in-Some.row (rows.line + 1) (to_read rows) (to_read last) (goes_on rows last _ _ c.in-Some.is given.goes)
-    c.in-default-send-row.field-0 (last.line + 1) (data_of c.send-row.new.sheet) c.in-default-send-row.ensures.answer c.in-default-send-row.ensures.after line)
+    c.in_default-send_row.field-0 (last.line + 1) (data_of c.send_row.new.sheet) c.in_default-send_row.ensures.answer c.in_default-send_row.ensures.after line)
     ∙ c.loop-row.invariant
 
 pub loop-row-smaller : goal.loop-row-smaller
 loop-row-smaller c =
     let rows = c.loop-row.rows in
     let last = c.next.new.self in
-    let size = ap length c.in-ok-row.ensures.text in
+    let size = ap length c.in_ok-row.ensures.text in
     let within = last.within in
-    omega (arith, next_place rows last _ c.in-Some.row c.in-Some.is c.in-ok-row.ensures.stands)
+    omega (arith, next_place rows last _ c.in-Some.row c.in-Some.is c.in_ok-row.ensures.stands)

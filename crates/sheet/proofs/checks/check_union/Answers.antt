@@ -8,10 +8,10 @@ use Rattle.sheet.specs.Answers.{refused, outcome}
 use Rattle.sheet.proofs.Keeping.{found_is, near_answer, far_answer}
 use Rattle.sheet.proofs.checks.check_union.Goals as goal
 
-pub returns-in-err-fits : goal.returns-in-err-fits
-returns-in-err-fits g c =
-    let p = err_from_is_err_and c.from-residual.result c.from-residual.ensures.1 in
-    let over = c.in-err-fits.ensures in
+pub returns-in_err-fits : goal.returns-in_err-fits
+returns-in_err-fits g c =
+    let p = err_from_is_err_and c.from_residual.result c.from_residual.ensures.1 in
+    let over = c.in_err-fits.ensures in
     rw (p.1, p.2)
     (ap refused over.0
     ∙ far_answer (union_of (g.A.Field.meaning c.args.first) (g.B.Field.meaning c.args.second)) c.args.x1 c.args.y1 c.args.z1 c.args.x2 c.args.y2 c.args.z2 over.1)
@@ -25,4 +25,4 @@ returns g c =
     ap₂ (λ x y. union_of (g.A.Field.meaning x) (g.B.Field.meaning y)) c.new.ensures.0 c.new.ensures.1 in
     found_is _ c.args.x1 c.args.y1 c.args.z1 c.args.x2 c.args.y2 c.args.z2 c.check.result judged
     ∙ ap (λ (m : Meaning). outcome (outcome_of c.args.x1 c.args.y1 c.args.z1 c.args.x2 c.args.y2 c.args.z2 m)) same
-    ∙ near_answer (union_of (g.A.Field.meaning c.args.first) (g.B.Field.meaning c.args.second)) c.args.x1 c.args.y1 c.args.z1 c.args.x2 c.args.y2 c.args.z2 c.in-ok-fits.ensures
+    ∙ near_answer (union_of (g.A.Field.meaning c.args.first) (g.B.Field.meaning c.args.second)) c.args.x1 c.args.y1 c.args.z1 c.args.x2 c.args.y2 c.args.z2 c.in_ok-fits.ensures

@@ -11,7 +11,7 @@ returns-in-45 c =
     let v = c.negated.ensures ∙ ap minus c.magnitude.ensures.value ∙ sym (minus_is _ l f) in
     record { value = v; says = says c.args.field.now _ v }
 
-pub returns-in-default : goal.returns-in-default
-returns-in-default c =
+pub returns-in_default : goal.returns-in_default
+returns-in_default c =
     let v : c.kept.result ≡ number_of c.args.field.now = search rules in
     record { value = v; says = says c.args.field.now _ v }

@@ -21,15 +21,15 @@ loop-column-init c =
     let l = len c.args.names.now in
     (omega arith, sym (ap (λ (l : List (List ℕ)). packed l (fields c.args.line.now)) (drop_all (length c.args.names.now) ns (omega arith))))
 
-pub overflow-mul-packed : goal.overflow-mul-packed
-overflow-mul-packed c =
+pub overflow_mul-packed : goal.overflow_mul-packed
+overflow_mul-packed c =
     let l = len c.args.names.now in
     let s = c.requires.few in
     let b = room (held c.args.names.now) (fields c.args.line.now) c.loop-column.column c.loop-column.packed c.loop-column.invariant.1 (omega arith) c.requires.small c.loop-column-test.true in
     record { fits = omega arith }
 
-pub overflow-add-packed : goal.overflow-add-packed
-overflow-add-packed c =
+pub overflow_add-packed : goal.overflow_add-packed
+overflow_add-packed c =
     let l = len c.args.names.now in
     let f = c.requires.few in
     let s = c.requires.small in
@@ -38,7 +38,7 @@ overflow-add-packed c =
     let heads = fields c.args.line.now in
     let column = c.loop-column.column in
     let lt : column - 1 < length xs = omega (arith, c.loop-column.invariant.0, c.loop-column-test.true) in
-    let e = c.place-in.ensures ∙ ap (place_in heads) (sym (get_or-map (λ (x : Bor (List ℕ)). x.now) xs (column - 1) _ [] lt)) in
+    let e = c.place_in.ensures ∙ ap (place_in heads) (sym (get_or-map (λ (x : Bor (List ℕ)). x.now) xs (column - 1) _ [] lt)) in
     let w = place_within heads (get_or (held xs) (column - 1) []) in
     record { fits = omega arith }
 
@@ -51,7 +51,7 @@ loop-column-preserved c =
     let l = len xs in
     let at : column - 1 + 1 ≡ column = omega (arith, c.loop-column-test.true) in
     let lt : column - 1 < length xs = omega (arith, inv.0, c.loop-column-test.true) in
-    let e = c.place-in.ensures ∙ ap (place_in heads) (sym (get_or-map (λ (x : Bor (List ℕ)). x.now) xs (column - 1) _ [] lt)) in
+    let e = c.place_in.ensures ∙ ap (place_in heads) (sym (get_or-map (λ (x : Bor (List ℕ)). x.now) xs (column - 1) _ [] lt)) in
     let b = ap (λ (p : ℕ). p * 16) inv.1 in
     let m = packed_more (held xs) heads column (column - 1) at (omega arith) in
     (omega arith, omega arith)

@@ -17,20 +17,20 @@ complete-row table text k r v e = subst (Complete (feeds text) k) (sym v) (all_r
 abbrev refusal : Fault → Result (Option (List ℤ)) Fault
 refusal f = Err f
 
-pub returns-in-err-opened : goal.returns-in-err-opened
-returns-in-err-opened c =
-    let f = c.in-err-opened.field-0.0 in
-    let out = err_from_is_err_and c.from-residual.result c.from-residual.ensures.1 in
-    let v = out.1 ∙ ap refusal out.2 ∙ sym (ap (row_of c.args.k) (refused_open c.args.table c.args.text.now f c.in-err-opened.ensures.0) ∙ row_refused c.args.k f (refused f)) in
+pub returns-in_err-opened : goal.returns-in_err-opened
+returns-in_err-opened c =
+    let f = c.in_err-opened.field-0.0 in
+    let out = err_from_is_err_and c.from_residual.result c.from_residual.ensures.1 in
+    let v = out.1 ∙ ap refusal out.2 ∙ sym (ap (row_of c.args.k) (refused_open c.args.table c.args.text.now f c.in_err-opened.ensures.0) ∙ row_refused c.args.k f (refused f)) in
     record { value = v; complete = λ e. complete-row c.args.table c.args.text.now c.args.k _ v e; same = λ places other r. v ∙ ap (row_of c.args.k) (alike c.args.table places c.args.text.now other r) }
 
-pub returns-in-err-names : goal.returns-in-err-names
-returns-in-err-names c =
+pub returns-in_err-names : goal.returns-in_err-names
+returns-in_err-names c =
     let text = c.args.text.now in
-    let f = c.in-err-names.field-0.0 in
-    let o = c.in-ok-opened.ensures in
-    let e = ap (λ (t : Table). heads_of (column_names t) text) (sym o.2) ∙ ap (heads_of (column_names c.in-ok-opened.opened.table)) (sym o.1) ∙ c.in-err-names.ensures in
-    let out = err_from_is_err_and c.from-residual-in-err-names.result c.from-residual-in-err-names.ensures.1 in
+    let f = c.in_err-names.field-0.0 in
+    let o = c.in_ok-opened.ensures in
+    let e = ap (λ (t : Table). heads_of (column_names t) text) (sym o.2) ∙ ap (heads_of (column_names c.in_ok-opened.opened.table)) (sym o.1) ∙ c.in_err-names.ensures in
+    let out = err_from_is_err_and c.from_residual-in_err-names.result c.from_residual-in_err-names.ensures.1 in
     let v = out.1 ∙ ap refusal out.2 ∙ sym (ap (row_of c.args.k) (refused_heads c.args.table text f o.0 e) ∙ row_refused c.args.k f (refused f)) in
     record { value = v; complete = λ e. complete-row c.args.table c.args.text.now c.args.k _ v e; same = λ places other r. v ∙ ap (row_of c.args.k) (alike c.args.table places c.args.text.now other r) }
 
@@ -40,8 +40,8 @@ left_of rows = left rows.table rows.order.packed rows.text.now rows.at rows.line
 pub returns : goal.returns
 returns c =
     let k = c.args.k in
-    let o = c.in-ok-opened.ensures in
-    let n = c.in-ok-names.ensures in
-    let whole = begun c.args.table _ _ c.args.text.now _ _ c.in-ok-names.names.order.packed (left_of c.rows-rows.result) o.0 o.1 o.2 n.0 n.1 n.2 c.rows-rows.ensures.whole in
-    let v = c.row-after.ensures ∙ sym (ap (row_of k) whole) in
+    let o = c.in_ok-opened.ensures in
+    let n = c.in_ok-names.ensures in
+    let whole = begun c.args.table _ _ c.args.text.now _ _ c.in_ok-names.names.order.packed (left_of c.rows-rows.result) o.0 o.1 o.2 n.0 n.1 n.2 c.rows-rows.ensures.whole in
+    let v = c.row_after.ensures ∙ sym (ap (row_of k) whole) in
     record { value = v; complete = λ e. complete-row c.args.table c.args.text.now c.args.k _ v e; same = λ places other r. v ∙ ap (row_of c.args.k) (alike c.args.table places c.args.text.now other r) }

@@ -18,28 +18,28 @@ loop-i-init c = ap (λ (j : ℕ). row_of j (left_of c.args.rows.now)) (sym (sub-
 
 pub returns-in-None : goal.returns-in-None
 returns-in-None c =
-    let turns = c.args.k - c.loop-i.-i in
+    let turns = c.args.k - c.loop-i._i in
     let more = left_of c.next.new.self in
-    let goes = c.in-ok-passed.ensures.goes ∙ ap (λ (o : Option (List ℤ)). after (Ok o) more) c.in-None.is in
+    let goes = c.in_ok-passed.ensures.goes ∙ ap (λ (o : Option (List ℤ)). after (Ok o) more) c.in-None.is in
     sym (c.loop-i.invariant ∙ ap (row_of turns) goes ∙ row_none turns more)
 
-pub returns-in-err-passed : goal.returns-in-err-passed
-returns-in-err-passed c =
-    let turns = c.args.k - c.loop-i.-i in
-    let f = c.in-err-passed.field-0.0 in
+pub returns-in_err-passed : goal.returns-in_err-passed
+returns-in_err-passed c =
+    let turns = c.args.k - c.loop-i._i in
+    let f = c.in_err-passed.field-0.0 in
     let more = left_of c.next.new.self in
-    let out = err_from_is_err_and c.from-residual.result c.from-residual.ensures.1 in
-    out.1 ∙ ap refusal out.2 ∙ sym (c.loop-i.invariant ∙ ap (row_of turns) c.in-err-passed.ensures.goes ∙ row_refused turns f more)
+    let out = err_from_is_err_and c.from_residual.result c.from_residual.ensures.1 in
+    out.1 ∙ ap refusal out.2 ∙ sym (c.loop-i.invariant ∙ ap (row_of turns) c.in_err-passed.ensures.goes ∙ row_refused turns f more)
 
 pub loop-i-preserved : goal.loop-i-preserved
 loop-i-preserved c =
-    let turns = c.args.k - c.loop-i.-i in
+    let turns = c.args.k - c.loop-i._i in
     let more = left_of c.next.new.self in
-    let goes = c.in-ok-passed.ensures.goes ∙ ap (λ (o : Option (List ℤ)). after (Ok o) more) c.in-Some.is in
-    c.loop-i.invariant ∙ ap (row_of turns) goes ∙ row_later c.args.k c.loop-i.-i _ more c.loop-i-test.true
+    let goes = c.in_ok-passed.ensures.goes ∙ ap (λ (o : Option (List ℤ)). after (Ok o) more) c.in-Some.is in
+    c.loop-i.invariant ∙ ap (row_of turns) goes ∙ row_later c.args.k c.loop-i._i _ more c.loop-i-test.true
 
 pub returns : goal.returns
 returns c =
     let more = left_of c.next-2.new.self in
-    let z : c.args.k - c.loop-i.-i ≡ 0 = omega arith in
+    let z : c.args.k - c.loop-i._i ≡ 0 = omega arith in
     sym (c.loop-i.invariant ∙ ap (λ (j : ℕ). row_of j (left_of c.loop-i.rows)) z ∙ ap (row_of 0) c.next-2.ensures.goes ∙ row_here c.next-2.result more)

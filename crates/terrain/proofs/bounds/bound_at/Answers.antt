@@ -6,28 +6,28 @@ use Rattle.terrain.specs.Rows.{heights_of}
 use Rattle.terrain.proofs.Ends.{middle_is, half_is, stored_piece, stored_middle_on_leg}
 use Rattle.terrain.proofs.bounds.bound_at.Goals as goal
 
-pub stays-in-cell-requires : goal.stays-in-cell-requires
-stays-in-cell-requires c = stored_piece c.requires.1.0
+pub stays_in_cell-requires : goal.stays_in_cell-requires
+stays_in_cell-requires c = stored_piece c.requires.1.0
 
-pub cell-bound-requires : goal.cell-bound-requires
-cell-bound-requires c = (c.requires.0, stored_piece c.requires.1.0)
+pub cell_bound-requires : goal.cell_bound-requires
+cell_bound-requires c = (c.requires.0, stored_piece c.requires.1.0)
 
-pub value-at-requires : goal.value-at-requires
-value-at-requires c = (c.requires.0, stored_middle_on_leg c.requires.1.0)
+pub value_at-requires : goal.value_at-requires
+value_at-requires c = (c.requires.0, stored_middle_on_leg c.requires.1.0)
 
-pub steepness-at-requires : goal.steepness-at-requires
-steepness-at-requires c = within (is_stored (is c.requires.1.1) tt) tt
+pub steepness_at-requires : goal.steepness_at-requires
+steepness_at-requires c = within (is_stored (is c.requires.1.1) tt) tt
 
-pub times-half-requires : goal.times-half-requires
-times-half-requires c = (within (is_stored (is_of c.steepness-at.ensures.value c.steepness-at.ensures.small) tt) tt, within (half_is c.requires.1.0) tt)
+pub times_half-requires : goal.times_half-requires
+times_half-requires c = (within (is_stored (is_of c.steepness_at.ensures.value c.steepness_at.ensures.small) tt) tt, within (half_is c.requires.1.0) tt)
 
-pub returns-then-stays-in-cell : goal.returns-then-stays-in-cell
+pub returns-then-stays_in_cell : goal.returns-then-stays_in_cell
 unfolding bound
-returns-then-stays-in-cell c =
+returns-then-stays_in_cell c =
     let leg = c.args.leg.now in let h = heights_of c.args.heights.now in
     let middle = (middle_is c.requires.1.0).same in let half = (half_is c.requires.1.0).same in
-    c.cell-bound.ensures ∙ (λ t. form_in h leg (cell_x leg (middle t) (pos 1)) (cell_y leg (middle t) (pos 1)) (middle t) (half t))
-    ∙ sym (cond-true (lies_in_one_cell leg c.args.m c.args.r) _ _ (sym (λ t. lies_in_one_cell leg (middle t) (half t)) ∙ sym c.stays-in-cell.ensures ∙ c.if-stays-in-cell.true))
+    c.cell_bound.ensures ∙ (λ t. form_in h leg (cell_x leg (middle t) (pos 1)) (cell_y leg (middle t) (pos 1)) (middle t) (half t))
+    ∙ sym (cond-true (lies_in_one_cell leg c.args.m c.args.r) _ _ (sym (λ t. lies_in_one_cell leg (middle t) (half t)) ∙ sym c.stays_in_cell.ensures ∙ c.if-stays_in_cell.true))
 
 pub returns : goal.returns
 unfolding bound
@@ -35,7 +35,7 @@ returns c =
     let leg = c.args.leg.now in let h = heights_of c.args.heights.now in
     let middle = (middle_is c.requires.1.0).same in let half = (half_is c.requires.1.0).same in
     let largest = (is_stored (is c.requires.1.1) tt).same in
-    let base = kept c.value-at.type-inv ∙ c.value-at.ensures ∙ (λ t. value h leg (middle t) (pos 1)) in
-    let slack = kept c.times-half.type-inv ∙ c.times-half.ensures ∙ ap₂ ◌*ℤ◌ (kept c.steepness-at.type-inv ∙ c.steepness-at.ensures.value ∙ (λ t. steepness (largest t) leg)) half in
+    let base = kept c.value_at.type_inv ∙ c.value_at.ensures ∙ (λ t. value h leg (middle t) (pos 1)) in
+    let slack = kept c.times_half.type_inv ∙ c.times_half.ensures ∙ ap₂ ◌*ℤ◌ (kept c.steepness_at.type_inv ∙ c.steepness_at.ensures.value ∙ (λ t. steepness (largest t) leg)) half in
     (λ t. record { u0 = base t; u1 = pos 0; u2 = slack t })
-    ∙ sym (cond-false (lies_in_one_cell leg c.args.m c.args.r) _ _ (sym (λ t. lies_in_one_cell leg (middle t) (half t)) ∙ sym c.stays-in-cell.ensures ∙ c.if-stays-in-cell.false))
+    ∙ sym (cond-false (lies_in_one_cell leg c.args.m c.args.r) _ _ (sym (λ t. lies_in_one_cell leg (middle t) (half t)) ∙ sym c.stays_in_cell.ensures ∙ c.if-stays_in_cell.false))

@@ -29,24 +29,24 @@ mul-requires c = (within (is_stored (is c.requires.0.twist) tt) tt, within (is_s
 pub mul-twist-requires : goal.mul-twist-requires
 mul-twist-requires c = (within (bend c.requires.0.twist c.requires.1.0 c.mul.ensures) tt, within (is_stored (is c.requires.1.1) tt) tt)
 
-pub overflow-mul-result : goal.overflow-mul-result
-overflow-mul-result c = fits (is_product (is_numeral 68719476736) (is_stored (is c.requires.0.base) tt)) tt
+pub overflow_mul-result : goal.overflow_mul-result
+overflow_mul-result c = fits (is_product (is_numeral 68719476736) (is_stored (is c.requires.0.base) tt)) tt
 
-pub overflow-mul-result-2 : goal.overflow-mul-result-2
-overflow-mul-result-2 c = fits (slope c.requires.0.east c.requires.1.0 c.mul-east.ensures) tt
+pub overflow_mul-result-2 : goal.overflow_mul-result-2
+overflow_mul-result-2 c = fits (slope c.requires.0.east c.requires.1.0 c.mul-east.ensures) tt
 
-pub overflow-add-result : goal.overflow-add-result
-overflow-add-result c = fits (is_sum (first c.requires.0.base) (is_stored (slope c.requires.0.east c.requires.1.0 c.mul-east.ensures) tt)) tt
+pub overflow_add-result : goal.overflow_add-result
+overflow_add-result c = fits (is_sum (first c.requires.0.base) (is_stored (slope c.requires.0.east c.requires.1.0 c.mul-east.ensures) tt)) tt
 
-pub overflow-mul-result-3 : goal.overflow-mul-result-3
-overflow-mul-result-3 c = fits (slope c.requires.0.north c.requires.1.1 c.mul-north.ensures) tt
+pub overflow_mul-result-3 : goal.overflow_mul-result-3
+overflow_mul-result-3 c = fits (slope c.requires.0.north c.requires.1.1 c.mul-north.ensures) tt
 
-pub overflow-add-result-2 : goal.overflow-add-result-2
-overflow-add-result-2 c =
+pub overflow_add-result-2 : goal.overflow_add-result-2
+overflow_add-result-2 c =
     fits (is_sum (is_stored (is_sum (first c.requires.0.base) (is_stored (slope c.requires.0.east c.requires.1.0 c.mul-east.ensures) tt)) tt) (is_stored (slope c.requires.0.north c.requires.1.1 c.mul-north.ensures) tt)) tt
 
-pub overflow-add-result-3 : goal.overflow-add-result-3
-overflow-add-result-3 c =
+pub overflow_add-result-3 : goal.overflow_add-result-3
+overflow_add-result-3 c =
     fits (is_sum (is_stored (is_sum (is_stored (is_sum (first c.requires.0.base) (is_stored (slope c.requires.0.east c.requires.1.0 c.mul-east.ensures) tt)) tt) (is_stored (slope c.requires.0.north c.requires.1.1 c.mul-north.ensures) tt)) tt)
     (twist c.requires.0.twist c.requires.1.0 c.requires.1.1 c.mul.ensures c.mul-twist.ensures)) tt
 

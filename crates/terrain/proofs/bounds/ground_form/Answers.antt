@@ -55,8 +55,8 @@ sum-slopes-requires c =
     (bounded-by c.sum.ensures.value (bounded_sum (slope-bounded c.requires.0.east c.requires.1.0 c.scaled-east.ensures.value) (slope-bounded c.requires.0.north c.requires.1.1 c.scaled-north.ensures.value)))
     (twist-bounded c.requires.0.twist (product-bounded c.requires.1.0 c.requires.1.1 c.product.ensures.value) c.scaled-twist.ensures.value) tt
 
-pub overflow-mul-cell-3 : goal.overflow-mul-cell-3
-overflow-mul-cell-3 c = fits (is_product (is_numeral 68719476736) (is_stored (is c.requires.0.base) tt)) tt
+pub overflow_mul-cell-3 : goal.overflow_mul-cell-3
+overflow_mul-cell-3 c = fits (is_product (is_numeral 68719476736) (is_stored (is c.requires.0.base) tt)) tt
 
 pub shifted-requires : goal.shifted-requires
 shifted-requires c =

@@ -16,20 +16,20 @@ h01 c = north_of c.args.heights.now c.requires.0 c.args.i c.args.j c.requires.1.
 h11 : (c : goal.After-height-h11) → Is (stored c.height-h11.result) (heights_of c.args.heights.now (suc c.args.i) (suc c.args.j)) 300
 h11 c = across_from c.args.heights.now c.requires.0 c.args.i c.args.j c.requires.1.0 c.requires.1.1 c.height-h11.ensures
 
-pub overflow-sub-result : goal.overflow-sub-result
-overflow-sub-result c = fits (is_difference (h10 c) (h00 c)) tt
+pub overflow_sub-result : goal.overflow_sub-result
+overflow_sub-result c = fits (is_difference (h10 c) (h00 c)) tt
 
-pub overflow-sub-result-2 : goal.overflow-sub-result-2
-overflow-sub-result-2 c = fits (is_difference (h01 c) (h00 c)) tt
+pub overflow_sub-result-2 : goal.overflow_sub-result-2
+overflow_sub-result-2 c = fits (is_difference (h01 c) (h00 c)) tt
 
-pub overflow-sub-result-3 : goal.overflow-sub-result-3
-overflow-sub-result-3 c = fits (is_difference (h00 c) (h10 c)) tt
+pub overflow_sub-result-3 : goal.overflow_sub-result-3
+overflow_sub-result-3 c = fits (is_difference (h00 c) (h10 c)) tt
 
-pub overflow-sub-result-4 : goal.overflow-sub-result-4
-overflow-sub-result-4 c = fits (is_difference (is_stored (is_difference (h00 c) (h10 c)) tt) (h01 c)) tt
+pub overflow_sub-result-4 : goal.overflow_sub-result-4
+overflow_sub-result-4 c = fits (is_difference (is_stored (is_difference (h00 c) (h10 c)) tt) (h01 c)) tt
 
-pub overflow-add-result : goal.overflow-add-result
-overflow-add-result c = fits (is_sum (is_stored (is_difference (is_stored (is_difference (h00 c) (h10 c)) tt) (h01 c)) tt) (h11 c)) tt
+pub overflow_add-result : goal.overflow_add-result
+overflow_add-result c = fits (is_sum (is_stored (is_difference (is_stored (is_difference (h00 c) (h10 c)) tt) (h01 c)) tt) (h11 c)) tt
 
 pub returns : goal.returns
 returns c =

@@ -15,8 +15,8 @@ move-is a_in b_in e = is_stored (is_abs e (is_stored (is_difference (is_stored (
 level : {z : ℤ} → negsuc 15 ≤ℤ z → z ≤ℤ pos 660 → Within z (pos 4096)
 level {z} low high = within_from z (pos 4096) (omega (arith, ints)) (omega (arith, ints))
 
-pub overflow-add-east : goal.overflow-add-east
-overflow-add-east c = let map = lies_on_map c.args.leg.now in fits (is_sum (move-is map.x1_in map.x2_in c.abs-east.ensures.value) (move-is map.y1_in map.y2_in c.abs-north.ensures.value)) tt
+pub overflow_add-east : goal.overflow_add-east
+overflow_add-east c = let map = lies_on_map c.args.leg.now in fits (is_sum (move-is map.x1_in map.x2_in c.abs-east.ensures.value) (move-is map.y1_in map.y2_in c.abs-north.ensures.value)) tt
 
 pub mul-requires : goal.mul-requires
 mul-requires c =
@@ -36,11 +36,11 @@ across c =
     is_product (is_numeral 786432) (is_stored (is_by c.mul.ensures (is_product (is_stored (is c.requires) tt)
     (is_stored (is_sum (move-is map.x1_in map.x2_in c.abs-east.ensures.value) (move-is map.y1_in map.y2_in c.abs-north.ensures.value)) tt))) tt)
 
-pub overflow-mul-result-2 : goal.overflow-mul-result-2
-overflow-mul-result-2 c = fits (across c) tt
+pub overflow_mul-result-2 : goal.overflow_mul-result-2
+overflow_mul-result-2 c = fits (across c) tt
 
-pub overflow-add-result : goal.overflow-add-result
-overflow-add-result c = fits (is_sum (climb c) (is_stored (across c) tt)) tt
+pub overflow_add-result : goal.overflow_add-result
+overflow_add-result c = fits (is_sum (climb c) (is_stored (across c) tt)) tt
 
 pub returns : goal.returns
 unfolding steepness

@@ -5,8 +5,8 @@ use Rattle.terrain.proofs.bounds.times_half.Goals as goal
 product : (c : goal.Start) → Is (stored c.args.steepness *ℤ stored c.args.r) (c.args.steepness *ℤ c.args.r) 8620171161763840
 product c = is_product (is_stored (is c.requires.0) tt) (is_stored (is c.requires.1) tt)
 
-pub overflow-mul-result : goal.overflow-mul-result
-overflow-mul-result c = fits (product c) tt
+pub overflow_mul-result : goal.overflow_mul-result
+overflow_mul-result c = fits (product c) tt
 
 pub returns : goal.returns
 returns c = (is_stored (product c) tt).same

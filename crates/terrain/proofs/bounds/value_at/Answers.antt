@@ -14,32 +14,32 @@ use Rattle.terrain.proofs.Grounds.{ground_is_surface}
 use Rattle.terrain.proofs.Lattices.{level_is, stored_on_leg}
 use Rattle.terrain.proofs.bounds.value_at.Goals as goal
 
-pub find-spot-x-requires : goal.find-spot-x-requires
-find-spot-x-requires c =
+pub find_spot-x-requires : goal.find_spot-x-requires
+find_spot-x-requires c =
     let map = lies_on_map c.args.leg.now in (within (is_stored (is map.x1_in) tt) tt, (within (is_stored (is map.x2_in) tt) tt, stored_on_leg (half_step_is c.requires.1) c.requires.1))
 
-pub find-spot-y-requires : goal.find-spot-y-requires
-find-spot-y-requires c =
+pub find_spot-y-requires : goal.find_spot-y-requires
+find_spot-y-requires c =
     let map = lies_on_map c.args.leg.now in (within (is_stored (is map.y1_in) tt) tt, (within (is_stored (is map.y2_in) tt) tt, stored_on_leg (half_step_is c.requires.1) c.requires.1))
 
-pub coordinate-at-z-requires : goal.coordinate-at-z-requires
-coordinate-at-z-requires c =
+pub coordinate_at-z-requires : goal.coordinate_at-z-requires
+coordinate_at-z-requires c =
     let map = lies_on_map c.args.leg.now in
     (within (level_is map.z1_from map.z1_to) tt, (within (level_is map.z2_from map.z2_to) tt, within (half_step_is c.requires.1) tt))
 
-pub read-cell-cell-requires : goal.read-cell-cell-requires
-read-cell-cell-requires c = (c.requires.0, (below_128 c.find-spot-x.ensures.index (cell_on_lattice _ _), below_128 c.find-spot-y.ensures.index (cell_on_lattice _ _)))
+pub read_cell-cell-requires : goal.read_cell-cell-requires
+read_cell-cell-requires c = (c.requires.0, (below_128 c.find_spot-x.ensures.index (cell_on_lattice _ _), below_128 c.find_spot-y.ensures.index (cell_on_lattice _ _)))
 
-pub overflow-mul-result : goal.overflow-mul-result
-overflow-mul-result c =
+pub overflow_mul-result : goal.overflow_mul-result
+overflow_mul-result c =
     let map = lies_on_map c.args.leg.now in
-    fits (is_product (is_numeral 16777216) (is_stored (coordinate_is (level_is map.z1_from map.z1_to) (level_is map.z2_from map.z2_to) (half_step_is c.requires.1) c.coordinate-at-z.ensures) tt)) tt
+    fits (is_product (is_numeral 16777216) (is_stored (coordinate_is (level_is map.z1_from map.z1_to) (level_is map.z2_from map.z2_to) (half_step_is c.requires.1) c.coordinate_at-z.ensures) tt)) tt
 
 pub ground-requires : goal.ground-requires
 ground-requires c =
     let map = lies_on_map c.args.leg.now in (
-      c.read-cell-cell.ensures.small,
-      (within (into_is map.x1_in map.x2_in c.requires.1 c.find-spot-x.ensures.depth) tt, within (into_is map.y1_in map.y2_in c.requires.1 c.find-spot-y.ensures.depth) tt),
+      c.read_cell-cell.ensures.small,
+      (within (into_is map.x1_in map.x2_in c.requires.1 c.find_spot-x.ensures.depth) tt, within (into_is map.y1_in map.y2_in c.requires.1 c.find_spot-y.ensures.depth) tt),
     )
 
 -- the ground, by the lattice's names
@@ -51,25 +51,25 @@ ruled c =
 ground-is : (c : goal.After-ground) → Is c.ground.result (ruled c) 185542587187200
 ground-is c =
     let map = lies_on_map c.args.leg.now in
-    let i = index_is map.x1_in map.x2_in c.requires.1 c.find-spot-x.ensures.index in
-    let j = index_is map.y1_in map.y2_in c.requires.1 c.find-spot-y.ensures.index in
-    let f = (into_is map.x1_in map.x2_in c.requires.1 c.find-spot-x.ensures.depth).same in
-    let g = (into_is map.y1_in map.y2_in c.requires.1 c.find-spot-y.ensures.depth).same in
+    let i = index_is map.x1_in map.x2_in c.requires.1 c.find_spot-x.ensures.index in
+    let j = index_is map.y1_in map.y2_in c.requires.1 c.find_spot-y.ensures.index in
+    let f = (into_is map.x1_in map.x2_in c.requires.1 c.find_spot-x.ensures.depth).same in
+    let g = (into_is map.y1_in map.y2_in c.requires.1 c.find_spot-y.ensures.depth).same in
     let e = c.ground.ensures.value
-    ∙ ground_is_surface c.args.heights.now _ _ c.read-cell-cell.result c.read-cell-cell.ensures.value _ _
+    ∙ ground_is_surface c.args.heights.now _ _ c.read_cell-cell.result c.read_cell-cell.ensures.value _ _
     ∙ (λ t. surface (heights_of c.args.heights.now) (i t) (j t) (f t) (g t) (pos 1)) in
     record { same = e; small = subst (λ (x : ℤ). Within x (pos 185542587187200)) e c.ground.ensures.small }
 
 -- what the last line stores
-answer : (c : goal.After-ground) → Is (stored (pos 16777216 *ℤ stored c.coordinate-at-z.result) -ℤ stored c.ground.result) (pos 16777216 *ℤ coordinate c.args.leg.now.z1 c.args.leg.now.z2 c.args.s (pos 1) -ℤ ruled c) 1029967517319168
+answer : (c : goal.After-ground) → Is (stored (pos 16777216 *ℤ stored c.coordinate_at-z.result) -ℤ stored c.ground.result) (pos 16777216 *ℤ coordinate c.args.leg.now.z1 c.args.leg.now.z2 c.args.s (pos 1) -ℤ ruled c) 1029967517319168
 answer c =
     let map = lies_on_map c.args.leg.now in
     is_difference
-    (is_stored (is_product (is_numeral 16777216) (is_stored (coordinate_is (level_is map.z1_from map.z1_to) (level_is map.z2_from map.z2_to) (half_step_is c.requires.1) c.coordinate-at-z.ensures) tt)) tt)
+    (is_stored (is_product (is_numeral 16777216) (is_stored (coordinate_is (level_is map.z1_from map.z1_to) (level_is map.z2_from map.z2_to) (half_step_is c.requires.1) c.coordinate_at-z.ensures) tt)) tt)
     (is_stored (ground-is c) tt)
 
-pub overflow-sub-result : goal.overflow-sub-result
-overflow-sub-result c = fits (answer c) tt
+pub overflow_sub-result : goal.overflow_sub-result
+overflow_sub-result c = fits (answer c) tt
 
 pub returns : goal.returns
 unfolding value

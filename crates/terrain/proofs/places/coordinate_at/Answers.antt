@@ -9,8 +9,8 @@ sum c =
     let a = is_stored (is c.requires.0) tt in let b = is_stored (is c.requires.1.0) tt in let s = is_stored (is c.requires.1.1) tt in
     is_sum (is_stored (is_product (is_numeral 4096) a) tt) (is_stored (is_by c.mul-run.ensures (is_product (is_stored (is_difference b a) tt) s)) tt)
 
-pub overflow-add-result : goal.overflow-add-result
-overflow-add-result c = fits (sum c) tt
+pub overflow_add-result : goal.overflow_add-result
+overflow_add-result c = fits (sum c) tt
 
 pub returns : goal.returns
 returns c =

@@ -13,9 +13,9 @@ between {x} low high = within_from x (pos 33554432) (omega (arith, ints)) (omega
 index_is : {n : ℕ} → n < 128 → Is (pos n) (pos n) 128
 index_is {n} h = is (within_from (pos n) (pos 128) (omega (arith, ints)) (omega (arith, ints)))
 
-pub into-cell-depth-requires : goal.into-cell-depth-requires
-into-cell-depth-requires c = (
-  between (edge_low c.requires.0 c.requires.1.0 c.requires.1.1.0 c.from-edge-at-u.ensures) (edge_high c.requires.0 c.requires.1.0 c.requires.1.1.0 c.from-edge-at-u.ensures),
+pub into_cell-depth-requires : goal.into_cell-depth-requires
+into_cell-depth-requires c = (
+  between (edge_low c.requires.0 c.requires.1.0 c.requires.1.1.0 c.from_edge_at-u.ensures) (edge_high c.requires.0 c.requires.1.0 c.requires.1.1.0 c.from_edge_at-u.ensures),
   c.requires.1.1.1,
 )
 
@@ -23,4 +23,4 @@ pub returns : goal.returns
 returns c =
     c.inside.ensures
     ∙ ap (λ (x : ℤ). le_z (pos 0) x && le_z x (pos 262144))
-    (is_stored (is_by c.into-cell-depth.ensures (is_difference (edge_is c.requires.0 c.requires.1.0 c.requires.1.1.0 c.from-edge-at-u.ensures) (is_product (is_numeral 262144) (index_is c.requires.1.1.1)))) tt).same
+    (is_stored (is_by c.into_cell-depth.ensures (is_difference (edge_is c.requires.0 c.requires.1.0 c.requires.1.1.0 c.from_edge_at-u.ensures) (is_product (is_numeral 262144) (index_is c.requires.1.1.1)))) tt).same

@@ -9,7 +9,7 @@ loop-k-init c = every_none (λ (k : ℕ). in_range (height_in_file c.args.bytes.
 
 pub loop-k-preserved : goal.loop-k-preserved
 loop-k-preserved c = every_more (λ (k : ℕ). in_range (height_in_file c.args.bytes.now k)) c.loop-k.k c.loop-k.invariant
-    (c.in-range-good.ensures ∙ ap in_range (to_z-of_z w16 c.file-height.result (record { sfits = c.file-height.type-inv }) ∙ c.file-height.ensures))
+    (c.in_range-good.ensures ∙ ap in_range (to_z-of_z w16 c.file_height.result (record { sfits = c.file_height.type_inv }) ∙ c.file_height.ensures))
 
 pub returns : goal.returns
 returns c = c.loop-k.invariant ∙ ap (λ (n : ℕ). every n (λ (k : ℕ). in_range (height_in_file c.args.bytes.now k))) (let all : c.loop-k.k ≡ 16641 = omega arith in all)

@@ -6,12 +6,12 @@ use Rattle.terrain.proofs.rows.file_row.Goals as goal
 
 pub loop-k-init : goal.loop-k-init
 loop-k-init c =
-    let made = c.in-ok-row.ensures in
+    let made = c.in_ok-row.ensures in
     (made.items ∙ listed_none (height_in_file c.args.bytes.now), made.len, made.capacity)
 
 pub loop-k-preserved : goal.loop-k-preserved
 loop-k-preserved c = (
-  c.push-reserved.ensures.items ∙ listed_more (height_in_file c.args.bytes.now) c.loop-k.k c.loop-k.invariant.0 (to_z-of_z w16 c.file-height.result (record { sfits = c.file-height.type-inv }) ∙ c.file-height.ensures),
-  c.push-reserved.ensures.len ∙ ap (λ (n : ℕ). n + 1) c.loop-k.invariant.1,
-  subst (λ (n : ℕ). 16641 ≤ n) (sym c.push-reserved.ensures.capacity) c.loop-k.invariant.2,
+  c.push_reserved.ensures.items ∙ listed_more (height_in_file c.args.bytes.now) c.loop-k.k c.loop-k.invariant.0 (to_z-of_z w16 c.file_height.result (record { sfits = c.file_height.type_inv }) ∙ c.file_height.ensures),
+  c.push_reserved.ensures.len ∙ ap (λ (n : ℕ). n + 1) c.loop-k.invariant.1,
+  subst (λ (n : ℕ). 16641 ≤ n) (sym c.push_reserved.ensures.capacity) c.loop-k.invariant.2,
 )

@@ -8,7 +8,7 @@ pub loop-j-init : goal.loop-j-init
 loop-j-init c = most_none (λ (j : ℕ). most 128 (step_to_east c.args.heights.now j))
 
 pub loop-j-preserved : goal.loop-j-preserved
-loop-j-preserved c = most_more (λ (j : ℕ). most 128 (step_to_east c.args.heights.now j)) c.loop-j.j c.loop-j.invariant c.row-step.ensures c.max-top.ensures
+loop-j-preserved c = most_more (λ (j : ℕ). most 128 (step_to_east c.args.heights.now j)) c.loop-j.j c.loop-j.invariant c.row_step.ensures c.max-top.ensures
 
 pub returns : goal.returns
 returns c = c.loop-j.invariant ∙ ap (λ (k : ℕ). most k (λ (j : ℕ). most 128 (step_to_east c.args.heights.now j))) (let all : c.loop-j.j ≡ 129 = omega arith in all)

@@ -4,4 +4,4 @@ use Rattle.terrain.proofs.steps.largest_step.Goals as goal
 
 pub returns : goal.returns
 unfolding greatest_step
-returns c = c.max.ensures ∙ ap₂ max c.largest-east.ensures c.largest-north.ensures
+returns c = c.max.ensures ∙ ap₂ max c.largest_east.ensures c.largest_north.ensures

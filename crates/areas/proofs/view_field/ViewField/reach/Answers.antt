@@ -19,5 +19,5 @@ unite-requires c =
 pub returns : goal.returns
 returns c =
     let view = c.args.self.now in let nodes = c.args.self.now.nodes.now in
-    kept c.unite.type-inv ∙ united_known (length nodes) (λ a b. int_max a b +ℤ pos 2048) (λ i. get_or c.reaches.result i (pos 0)) (λ i. reach_of nodes i)
+    kept c.unite.type_inv ∙ united_known (length nodes) (λ a b. int_max a b +ℤ pos 2048) (λ i. get_or c.reaches.result i (pos 0)) (λ i. reach_of nodes i)
     c.reaches.ensures (pos 1152921504606846976) view.areas.now.slots view.stands c.unite.ensures

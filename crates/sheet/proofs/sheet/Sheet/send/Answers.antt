@@ -17,6 +17,6 @@ returns-in-Check c =
     let e : SFits w64 x2 = search rules in let f : SFits w64 y2 = search rules in let h : SFits w64 z2 = search rules in
     let live = simp to_z-of_z at c.check.ensures in
     record {
-      answer = c.verdict-reply.ensures ∙ check_answers (data_of sheet) (standing_of sheet) x1 y1 z1 x2 y2 z2 _ live.kept ∙ ap (answer_of (data_of sheet)) call;
+      answer = c.verdict_reply.ensures ∙ check_answers (data_of sheet) (standing_of sheet) x1 y1 z1 x2 y2 z2 _ live.kept ∙ ap (answer_of (data_of sheet)) call;
       after = check_leaves (data_of sheet) x1 y1 z1 x2 y2 z2 ∙ ap (after (data_of sheet)) call;
     }

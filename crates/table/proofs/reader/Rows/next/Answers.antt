@@ -9,15 +9,15 @@ use Rattle.table.proofs.NextRows.{not_ended, taken, row_refused, row_good, row_f
 use Rattle.table.proofs.Runs.{goes_on}
 use Rattle.table.proofs.reader.Rows.next.Goals as goal
 
-pub returns-in-err-standing : goal.returns-in-err-standing
-returns-in-err-standing c =
+pub returns-in_err-standing : goal.returns-in_err-standing
+returns-in_err-standing c =
     let self = c.args.self.now in
     let text = self.text.now in
     let rest = drop self.at text in
     let count = length (column_names self.table) in
-    let f = c.in-err-standing.field-0.0 in
-    let is = c.in-err-standing.ensures in
-    let out = err_from_is_err_and c.from-residual.result c.from-residual.ensures.1 in
+    let f = c.in_err-standing.field-0.0 in
+    let is = c.in_err-standing.ensures in
+    let out = err_from_is_err_and c.from_residual.result c.from_residual.ensures.1 in
     let answer : Fault → Result (Option (List ℤ)) Fault = λ x. Err x in
     let more = not_ended rest (λ e. is.0 (nil_from_length rest e)) in
     let told = out.1 ∙ ap answer out.2 ∙ row_refused (row_by self.order.packed count) count (self.line + 1) (lines rest) more f is.1 in
@@ -41,7 +41,7 @@ returns c =
     let packed = self.order.packed in
     let line = c.in-Some.line.now in
     let Stood : Option (Bor (List ℕ)) → Type 0 = λ o. MatchOption o (rest ≡ []) (λ l. (line_at count (self.line + 1) (lines rest) ≡ Ok l.now) × LinePart text self.at l.now) in
-    let is = subst Stood c.in-Some.is c.in-ok-standing.ensures in
+    let is = subst Stood c.in-Some.is c.in_ok-standing.ensures in
     let within = is.1.within in
     let size = length-drop self.at text in
     let more = not_ended rest (λ e. let z : ⊥ = omega arith in z) in

@@ -6,10 +6,10 @@ use Rattle.terrain.proofs.Ends.{middle_is, half_is, stored_piece}
 use Rattle.terrain.proofs.Lattices.{largest_is, piece_spans}
 use Rattle.terrain.proofs.terrain.LatticeField.bound.Goals as goal
 
-pub bound-at-requires : goal.bound-at-requires
-bound-at-requires c =
+pub bound_at-requires : goal.bound_at-requires
+bound_at-requires c =
     let lattice = c.args.self.now in (
-      subst (λ (hs : List ℤ). ◌≡◌ (row_refusal hs) 0) (sym c.as-slice.ensures.value) lattice.fit,
+      subst (λ (hs : List ℤ). ◌≡◌ (row_refusal hs) 0) (sym c.as_slice.ensures.value) lattice.fit,
       (stored_piece (piece_spans c.args.piece.middle c.args.piece.half c.args.piece.made), within (largest_is (vec_items lattice.heights) lattice.fit lattice.steps) tt),
     )
 
@@ -18,4 +18,4 @@ returns c =
     let lattice = c.args.self.now in
     let spans = piece_spans c.args.piece.middle c.args.piece.half c.args.piece.made in
     let largest = (largest_is (vec_items lattice.heights) lattice.fit lattice.steps).same in
-    c.bound-at.ensures ∙ (λ t. bound (heights_of (c.as-slice.ensures.value t)) (largest t) c.args.leg.now ((middle_is spans).same t) ((half_is spans).same t))
+    c.bound_at.ensures ∙ (λ t. bound (heights_of (c.as_slice.ensures.value t)) (largest t) c.args.leg.now ((middle_is spans).same t) ((half_is spans).same t))
