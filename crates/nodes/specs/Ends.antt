@@ -1,5 +1,5 @@
 -- The coordinates of a leg's ends and at its half-steps, as a call with stored arguments has them.
-use Rattle.std.specs.Prelude.{◌≡◌, ℕ, ◌≤◌, ℤ, pos, ◌-ℤ◌, ◌*ℤ◌, refl}
+use Rattle.std.specs.Prelude.{◌≡◌, ℕ, ◌≤◌, ℤ, pos, ◌-ℤ◌, ◌*ℤ◌}
 use Rattle.std.proofs.Common.{sym, subst, ◌∙◌}
 use Rattle.integer.specs.Numbers.{Within}
 use Rattle.integer.proofs.Order.{natural≥0}

@@ -1,9 +1,9 @@
 -- Every node of a well-formed list is lawful, on every leg.
 use Rattle.std.specs.Prelude.{◌≡◌, ℕ, ◌<◌, List, length, ℤ, pos, ◌+ℤ◌, ◌-ℤ◌, ◌*ℤ◌, ◌≤ℤ◌}
 use Rattle.std.proofs.Math.Path.{refl}
-use Rattle.std.proofs.Common.{sym, subst, ◌∙◌}
+use Rattle.std.proofs.Common.{sym, subst}
 use Rattle.std.specs.Int.{int_max}
-use Rattle.integer.specs.Numbers.{Within, absℤ}
+use Rattle.integer.specs.Numbers.{Within}
 use Rattle.integer.proofs.Ring.{ring, ◌:+◌, ◌:-◌, ◌:*◌, con, ◌:=◌}
 use Rattle.integer.proofs.Order.{≤ℤ_trans, natural≥0, gap, ≥0_same, sum≥0, product≥0, by_gap, by_multiple}
 use Rattle.integer.proofs.Absolute.{abs≥0, within_from, within_same, within_sum, within_wider}
@@ -23,7 +23,7 @@ use Rattle.nodes.specs.Formed.{WellFormed, reach_bound}
 use Rattle.nodes.specs.Laws.{Laws, EveryNodeIsLawful}
 use Rattle.nodes.specs.TablesLemmas.{related_results, mapped_results}
 use Rattle.nodes.specs.Numbers.{natural≤}
-use Rattle.nodes.specs.Lawful.{Span, Meaning, Lawful, Near, NearForm, meanings}
+use Rattle.nodes.specs.Lawful.{Span, Meaning, Lawful, Near, meanings}
 use Rattle.nodes.specs.Combining.{middle_on_leg, form_spread, sum_lawful, lesser_lawful, greater_lawful, opposite_lawful}
 use Rattle.nodes.specs.QuadricsLemmas.{quadric_lawful}
 

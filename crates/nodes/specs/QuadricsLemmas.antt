@@ -1,5 +1,5 @@
 -- A quadric is lawful: it is the sum of one part for each axis, s D² + 4096 l D, and a constant. Each part is lawful, and so is their sum.
-use Rattle.std.specs.Prelude.{◌≡◌, ℤ, pos, negsuc, ◌+ℤ◌, ◌-ℤ◌, ◌*ℤ◌, ◌≤ℤ◌}
+use Rattle.std.specs.Prelude.{◌≡◌, ℤ, pos, ◌+ℤ◌, ◌-ℤ◌, ◌*ℤ◌, ◌≤ℤ◌}
 use Rattle.std.proofs.Math.Path.{refl, ap}
 use Rattle.std.proofs.Common.{sym, ap₂, subst, ◌∙◌}
 use Rattle.integer.specs.Numbers.{Within, absℤ}
@@ -9,7 +9,7 @@ use Rattle.integer.proofs.Absolute.{abs≥0, abs_of, abs_product, abs_least, wit
 use Rattle.leg.specs.declared.shapes.Leg.{Leg}
 use Rattle.leg.specs.Places.{OnLeg, OnPiece}
 use Rattle.affine.specs.declared.Form.{Form}
-use Rattle.affine.specs.Forms.{sum_of, scaled_by, low_end, high_end}
+use Rattle.affine.specs.Forms.{sum_of, scaled_by}
 use Rattle.affine.specs.Holding.{Holds}
 use Rattle.affine.proofs.Ends.{same_form}
 use Rattle.affine.proofs.Holding.{holds_sum, scaled_holds, rescaled_holds}

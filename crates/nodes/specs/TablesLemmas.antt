@@ -1,5 +1,5 @@
 -- Laws of the one text that works through a table, in any algebra.
-use Rattle.std.specs.Prelude.{◌≡◌, ℕ, zero, suc, ◌+◌, ◌<◌, Bool, true, false, cond, List, [], ◌∷◌, ◌++◌, length, ℤ, pos, negsuc, ◌<ℤ◌, slice_index_or, unsigned_abs}
+use Rattle.std.specs.Prelude.{◌≡◌, ℕ, zero, suc, ◌+◌, ◌<◌, Bool, true, false, cond, List, [], ◌∷◌, ◌++◌, length, ℤ, pos, negsuc, slice_index_or, unsigned_abs}
 use Rattle.std.proofs.Math.Path.{refl, sym, ap}
 use Rattle.std.proofs.Common.{ap₂, subst, subst₂, ◌∙◌}
 use Rattle.std.proofs.Math.Nat.{add-zero, zero-add, add_assoc, add_comm, le-add_right, le_of_suc-le-suc, not-suc-le-zero, lt_of_lt_of_le, lt_trans, lt-suc_self}
