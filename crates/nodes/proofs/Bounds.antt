@@ -1,5 +1,5 @@
 -- How large the numbers of a combined form are.
-use Rattle.std.proofs.Common.{ℕ, ◌+◌, ◌*◌, ◌≤◌, ℤ, pos, negsuc, ◌≤ℤ◌, arith}
+use Rattle.std.proofs.Common.{ℕ, ◌+◌, ◌*◌, ℤ, pos, negsuc, ◌≤ℤ◌, arith}
 use borrow.Author.Differences.{ints}
 use Rattle.integer.specs.Numbers.{Within}
 use Rattle.integer.proofs.Absolute.{within_sum, within_product, within_abs_self, within_wider}

@@ -1,11 +1,8 @@
 -- Steepness and reach in 64 bits: each step's number and bound, as the code's expressions go.
-use Rattle.std.proofs.Common.{◌≡◌, ℕ, ◌+◌, ◌*◌, ◌<◌, ◌≤◌, List, length, get_or, ℤ, pos, ◌+ℤ◌, ◌-ℤ◌, ◌*ℤ◌, sym, refl, ◌∙◌, subst, arith}
+use Rattle.std.proofs.Common.{◌≡◌, ℕ, ◌+◌, ◌*◌, ◌<◌, ◌≤◌, List, get_or, ℤ, pos, ◌+ℤ◌, ◌-ℤ◌, ◌*ℤ◌, ◌∙◌, arith}
 use Rattle.integer.specs.Numbers.{Within, absℤ}
-use Rattle.integer.proofs.Order.{≤ℤ_trans}
-use Rattle.integer.proofs.Ring.{ring, ◌:+◌, ◌:-◌, ◌:*◌, con, ◌:=◌}
-use Rattle.integer.proofs.Absolute.{abs≥0, within_sum, within_self, within_wider, within_abs_self}
-use Rattle.integer.proofs.Machine.{Is, stored, within, is, is_numeral, is_stored, is_sum, is_difference, is_product}
-use Rattle.leg.specs.declared.shapes.Leg.{Leg}
+use Rattle.integer.proofs.Absolute.{within_sum, within_abs_self}
+use Rattle.integer.proofs.Machine.{Is, stored, is, is_stored, is_difference, is_product}
 use Rattle.nodes.specs.declared.node.Node.{Node}
 use Rattle.nodes.specs.declared.node.Shape.{Shape}
 use Rattle.nodes.specs.declared.node.Shape.TheVariants.{Quadric, Sum, Union, Common, Outside}

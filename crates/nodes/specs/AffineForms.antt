@@ -1,24 +1,24 @@
 -- Forms on a piece of a leg are the forms of the nodes there, and none is too large.
-use Rattle.std.specs.Prelude.{◌≡◌, ℕ, ◌<◌, ◌≤◌, List, length, ℤ, pos, negsuc, ◌+ℤ◌, ◌-ℤ◌, ◌*ℤ◌, refl}
-use Rattle.std.proofs.Common.{sym, ap, subst, ◌∙◌, arith}
-use Rattle.std.proofs.lemmas.Int.{ints}
+use Rattle.std.specs.Prelude.{◌≡◌, ℕ, ◌<◌, ◌≤◌, List, length, ℤ, pos, negsuc, ◌-ℤ◌, ◌*ℤ◌, refl}
+use Rattle.std.proofs.Common.{sym, ap, subst, ◌∙◌}
+use Rattle.std.proofs.Math.Nat.{le_of_lt}
 use Rattle.integer.specs.Numbers.{Within}
 use Rattle.integer.proofs.Ring.{ring, ◌:+◌, ◌:-◌, ◌:*◌, con, ◌:=◌}
 use Rattle.integer.proofs.Order.{natural≥0}
-use Rattle.integer.proofs.Absolute.{within_self, within_wider, within_from}
-use Rattle.integer.proofs.Machine.{Is, within, is, is_difference, is_product}
+use Rattle.integer.proofs.Absolute.{within_self, within_wider, within_natural}
+use Rattle.integer.proofs.Machine.{within, is, is_difference, is_product}
 use Rattle.leg.specs.declared.shapes.Leg.{Leg}
 use Rattle.leg.specs.declared.shapes.Piece.{Piece}
-use Rattle.leg.specs.Places.{OnLeg, On, coordinate}
+use Rattle.leg.specs.Places.{coordinate}
 use Rattle.leg.proofs.Halving.{width_limit}
 use Rattle.affine.specs.declared.Form.{Form}
-use Rattle.affine.specs.Forms.{sum_of, scaled_by, shifted_by, opposite_of, lesser_of, greater_of}
+use Rattle.affine.specs.Forms.{sum_of, shifted_by, opposite_of, lesser_of, greater_of}
 use Rattle.affine.specs.Holding.{Holds}
 use Rattle.affine.specs.Fits.{Bounded}
 use Rattle.affine.proofs.Ends.{same_form}
 use Rattle.nodes.specs.declared.node.Node.{Node}
 use Rattle.nodes.specs.Tables.{Algebra, result_of}
-use Rattle.nodes.specs.Quadrics.{offset, square_of, line_of, quadric_form, quadric_value}
+use Rattle.nodes.specs.Quadrics.{line_of, quadric_form, quadric_value}
 use Rattle.nodes.specs.Meanings.{forms, form_of, zero_form}
 use Rattle.nodes.specs.Formed.{InRange, WellFormed}
 use Rattle.nodes.specs.Locations.{AxesBounded, algebra, affine_axes, affine_axis, affine_quadric, AffineFits, AffineHolds}
@@ -30,10 +30,10 @@ use Rattle.nodes.specs.Every.{piece_spans, ends_within, meaning, node_lawful, fo
 -- ---- the coordinates
 
 pub middle≤ : (piece : Piece) → piece.middle ≤ 4096
-middle≤ piece = let h = piece.made.3 in omega arith
+middle≤ piece = le_of_lt piece.made.3
 
 pub half_in : (piece : Piece) → Within (pos piece.half) (pos 2048)
-half_in piece = let h = width_limit piece.half piece.made.1 in within_from (pos piece.half) (pos 2048) (omega (arith, ints)) (omega (arith, ints))
+half_in piece = within_natural (pos piece.half) 2048 (width_limit piece.half piece.made.1)
 
 line_bounded : {x k : ℤ} → Within x (pos 16777216) → Within k (pos 16777216) → Bounded 16777216 (line_of x k)
 line_bounded v w = record { first = v; second = w; third = within_wider (within_self (natural≥0 0)) (natural≥0 16777216) }

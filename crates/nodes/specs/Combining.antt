@@ -1,13 +1,13 @@
 -- Sum, lesser, greater and opposite of lawful meanings are lawful.
 use Rattle.std.specs.Prelude.{◌≡◌, ℤ, pos, ◌+ℤ◌, ◌-ℤ◌, ◌*ℤ◌, neg_ℤ, ◌≤ℤ◌, refl}
-use Rattle.std.proofs.Common.{subst, arith}
+use Rattle.std.proofs.Common.{sym, subst}
 use Rattle.std.specs.Int.{int_min, int_max}
-use Rattle.std.proofs.lemmas.Int.{clamps, ints}
+use Rattle.std.specs.Int.Signed.{≤ℤ_refl}
 use Rattle.integer.specs.Numbers.{Within, absℤ}
-use Rattle.integer.proofs.Ring.{ring, ◌:+◌, ◌:-◌, ◌:*◌, con, ◌:=◌}
+use Rattle.integer.proofs.Ring.{ring, ◌:+◌, ◌:-◌, ◌:*◌, neg, con, ◌:=◌}
 use Rattle.integer.proofs.Order.{≤ℤ_trans, natural≥0, weaker, gap, sum≥0, product≥0, by_gap}
 use Rattle.integer.proofs.Absolute.{abs_neg, triangle, within_same, within_wider, within_neg, within_sum}
-use Rattle.integer.proofs.Extremes.{min_has, max_first, max_second, max_has}
+use Rattle.integer.proofs.Extremes.{min_first, min_second, min_greatest, min_has, max_first, max_second, max_has}
 use Rattle.leg.specs.declared.shapes.Leg.{Leg}
 use Rattle.leg.specs.Places.{OnLeg, OnPiece}
 use Rattle.affine.specs.declared.Form.{Form}
@@ -20,10 +20,19 @@ use Rattle.nodes.specs.Lawful.{Span, Meaning, Lawful, Near, NearForm, meanings}
 -- ---- the middle of a piece
 
 pub middle_on_leg : (m r : ℤ) → Span m r → OnLeg m (pos 1)
-middle_on_leg m r span = let a = span.wide in let b = span.from in let c = span.to in record { parts = record { le = tt }; from = omega (arith, ints); to = omega (arith, ints) }
+middle_on_leg m r span = record {
+  parts = record { le = tt };
+  from = ≤ℤ_trans (weaker span.wide) span.from;
+  to = by_gap _ _ _ (sum≥0 (gap span.to) (weaker span.wide)) (ring 2 (λ m r. (con (pos 4096) :- (m :+ r)) :+ r := con (pos 4096) :* con (pos 1) :- m) refl m r);
+}
 
 pub middle_on_piece : (m r : ℤ) → Span m r → OnPiece m r m (pos 1)
-middle_on_piece m r span = let a = span.wide in record { wide = span.wide; parts = record { le = tt }; from = omega (arith, ints); to = omega (arith, ints) }
+middle_on_piece m r span = record {
+  wide = span.wide;
+  parts = record { le = tt };
+  from = by_gap _ _ _ (weaker span.wide) (ring 2 (λ m r. r := m :- (m :- r) :* con (pos 1)) refl m r);
+  to = by_gap _ _ _ (weaker span.wide) (ring 2 (λ m r. r := (m :+ r) :* con (pos 1) :- m) refl m r);
+}
 
 -- q q is not negative at a place
 square≥0 : {p q : ℤ} → OnLeg p q → pos 0 ≤ℤ (q *ℤ q)
@@ -53,15 +62,42 @@ near_opposite : (v d : ℤ) (u : Form) → NearForm v d u → NearForm (neg_ℤ 
 near_opposite v d u h = plain u.u0 (absℤ u.u1) u.u2 (absℤ (neg_ℤ u.u1)) (abs_neg u.u1) h
   where
     plain : (a b c s : ℤ) → s ≡ b → Near v d (a -ℤ b -ℤ c) (a +ℤ b +ℤ c) → Near (neg_ℤ v) d (neg_ℤ a -ℤ s -ℤ c) (neg_ℤ a +ℤ s +ℤ c)
-    plain a b c s e h = let l = h.low in let k = h.high in record { low = omega (arith, ints); high = omega (arith, ints) }
+    plain a b c s e h =
+        subst (λ (s : ℤ). Near (neg_ℤ v) d (neg_ℤ a -ℤ s -ℤ c) (neg_ℤ a +ℤ s +ℤ c)) (sym e)
+        (record {
+          low = by_gap _ _ _ (gap h.high) (ring 5 (λ v d a b c. (v :+ d) :- (a :+ b :+ c) := (neg a :- b :- c) :- (neg v :- d)) refl v d a b c);
+          high = by_gap _ _ _ (gap h.low) (ring 5 (λ v d a b c. (a :- b :- c) :- (v :- d) := (neg v :+ d) :- (neg a :+ b :+ c)) refl v d a b c);
+        })
+
+-- from an end that lies within d of v to one that may lie 1 further
+lower : (v d e lo m n : ℤ) → (d +ℤ pos 1) ≤ℤ e → (v -ℤ d) ≤ℤ lo → m ≤ℤ v → lo ≤ℤ n → (m -ℤ e) ≤ℤ n
+lower v d e lo m n more h m≤ ≤n =
+    by_gap _ _ _ (sum≥0 (sum≥0 (sum≥0 (gap more) (gap h)) (sum≥0 (gap m≤) (gap ≤n))) (natural≥0 1))
+    (ring 6 (λ v d e lo m n. ((e :- (d :+ con (pos 1))) :+ (lo :- (v :- d))) :+ ((v :- m) :+ (n :- lo)) :+ con (pos 1) := n :- (m :- e)) refl v d e lo m n)
+
+higher : (v d e hi m n top : ℤ) → (d +ℤ pos 1) ≤ℤ e → hi ≤ℤ (v +ℤ d) → top ≤ℤ (m +ℤ pos 1) → m ≤ℤ hi → v ≤ℤ n → top ≤ℤ (n +ℤ e)
+higher v d e hi m n top more h top≤ m≤ ≤n =
+    by_gap _ _ _ (sum≥0 (sum≥0 (sum≥0 (gap more) (gap h)) (sum≥0 (gap top≤) (gap m≤))) (gap ≤n))
+    (ring 7 (λ v d e hi m n top. ((e :- (d :+ con (pos 1))) :+ ((v :+ d) :- hi)) :+ (((m :+ con (pos 1)) :- top) :+ (hi :- m)) :+ (n :- v) := (n :+ e) :- top) refl v d e hi m n top)
 
 -- the lesser and the greater: the low end is exact, the rounding of the centre costs the high end 1
 module _ (v v' d d' e : ℤ) (more : (d +ℤ pos 1) ≤ℤ e) (more' : (d' +ℤ pos 1) ≤ℤ e) (lo hi lo' hi' low high : ℤ) (h : Near v d lo hi) (k : Near v' d' lo' hi') where
   near_min : low ≡ int_min lo lo' → high ≤ℤ (int_min hi hi' +ℤ pos 1) → Near (int_min v v') e low high
-  near_min l t = let a = h.low in let b = h.high in let c = k.low in let f = k.high in record { low = omega (arith, ints, clamps); high = omega (arith, ints, clamps) }
+  near_min l t = record {
+    low = subst (λ (x : ℤ). (int_min v v' -ℤ e) ≤ℤ x) (sym l)
+        (min_greatest (lower v d e lo _ _ more h.low (min_first v v') (≤ℤ_refl lo)) (lower v' d' e lo' _ _ more' k.low (min_second v v') (≤ℤ_refl lo')));
+    high = min_has v v' (λ (x : ℤ). high ≤ℤ (x +ℤ e))
+        (higher v d e hi _ _ high more h.high t (min_first hi hi') (≤ℤ_refl v)) (higher v' d' e hi' _ _ high more' k.high t (min_second hi hi') (≤ℤ_refl v'));
+  }
 
   near_max : low ≡ int_max lo lo' → high ≤ℤ (int_max hi hi' +ℤ pos 1) → Near (int_max v v') e low high
-  near_max l t = let a = h.low in let b = h.high in let c = k.low in let f = k.high in record { low = omega (arith, ints, clamps); high = omega (arith, ints, clamps) }
+  near_max l t = record {
+    low = subst (λ (x : ℤ). (int_max v v' -ℤ e) ≤ℤ x) (sym l)
+        (max_has v v' (λ (x : ℤ). (x -ℤ e) ≤ℤ int_max lo lo')
+        (lower v d e lo _ _ more h.low (≤ℤ_refl v) (max_first lo lo')) (lower v' d' e lo' _ _ more' k.low (≤ℤ_refl v') (max_second lo lo')));
+    high = max_has hi hi' (λ (x : ℤ). high ≤ℤ (x +ℤ pos 1) → high ≤ℤ (int_max v v' +ℤ e))
+        (λ s. higher v d e hi _ _ high more h.high s (≤ℤ_refl hi) (max_first v v')) (λ s. higher v' d' e hi' _ _ high more' k.high s (≤ℤ_refl hi') (max_second v v')) t;
+  }
 
 -- ---- the larger of two steepnesses plus 1, of two reaches plus 2048
 
@@ -84,7 +120,7 @@ larger_in_reach l l' g g' h k =
     (plain l (int_max g g') (≤ℤ_trans h (max_first g g'))) (plain l' (int_max g g') (≤ℤ_trans k (max_second g g')))
   where
     plain : (l s : ℤ) → (pos 2048 *ℤ l) ≤ℤ s → (pos 2048 *ℤ (l +ℤ pos 1)) ≤ℤ (s +ℤ pos 2048)
-    plain l s h = omega (arith, ints)
+    plain l s h = by_gap _ _ _ (gap h) (ring 2 (λ l s. s :- con (pos 2048) :* l := (s :+ con (pos 2048)) :- con (pos 2048) :* (l :+ con (pos 1))) refl l s)
 
 larger≥0 : (l l' : ℤ) → pos 0 ≤ℤ l → pos 0 ≤ℤ (int_max l l' +ℤ pos 1)
 larger≥0 l l' h = sum≥0 (≤ℤ_trans h (max_first l l')) (natural≥0 1)

@@ -1,13 +1,14 @@
 -- The coordinates of a leg's ends and at its half-steps, as a call with stored arguments has them.
-use Rattle.std.specs.Prelude.{◌≡◌, ℕ, ◌≤◌, ℤ, pos, ◌-ℤ◌, ◌*ℤ◌, refl}
-use Rattle.std.proofs.Common.{sym, subst, ◌∙◌, arith}
-use Rattle.std.proofs.lemmas.Int.{ints}
+use Rattle.std.specs.Prelude.{◌≡◌, ℕ, ◌≤◌, ℤ, pos, ◌-ℤ◌, ◌*ℤ◌}
+use Rattle.std.proofs.Common.{sym, subst, ◌∙◌}
 use Rattle.integer.specs.Numbers.{Within}
-use Rattle.integer.proofs.Absolute.{within_from}
+use Rattle.integer.proofs.Order.{natural≥0}
+use Rattle.integer.proofs.Absolute.{within_natural}
 use Rattle.integer.proofs.Machine.{Is, stored, within, is, is_of, is_by, is_stored}
 use Rattle.leg.specs.Places.{OnLeg, coordinate}
 use Rattle.affine.specs.declared.Form.{Form}
 use Rattle.nodes.specs.declared.axes.Axes.{Axes}
+use Rattle.nodes.specs.Numbers.{natural≤}
 
 -- coordinates that are the same one by one are the same
 pub same_axes : {x y z : Form} {axes : Axes} → x ≡ axes.x → y ≡ axes.y → z ≡ axes.z → record { x = x; y = y; z = z } ≡ axes
@@ -15,10 +16,10 @@ same_axes e f g = λ i. record { x = e i; y = f i; z = g i }
 
 -- a half-step's number
 pub step_on_leg : (n : ℕ) → n ≤ 4096 → OnLeg (pos n) (pos 1)
-step_on_leg n h = record { parts = record { le = tt }; from = omega (arith, ints); to = omega (arith, ints) }
+step_on_leg n h = record { parts = record { le = tt }; from = natural≥0 n; to = natural≤ h }
 
 pub step_is : (n : ℕ) → n ≤ 4096 → {s : ℤ} → s ≡ pos n → stored s ≡ pos n
-step_is n h e = (is_stored (is_of e (subst (λ (x : ℤ). Within x (pos 4096)) (sym e) (within_from (pos n) (pos 4096) (omega (arith, ints)) (omega (arith, ints))))) tt).same
+step_is n h e = (is_stored (is_of e (subst (λ (x : ℤ). Within x (pos 4096)) (sym e) (within_natural (pos n) 4096 h))) tt).same
 
 module _ {a b : ℤ} (a_in : Within a (pos 4096)) (b_in : Within b (pos 4096)) (n : ℕ) (n≤ : n ≤ 4096) {s : ℤ} (s_is : s ≡ pos n) where
   pub coordinate_asks : Within (stored a) (pos 4096) × (Within (stored b) (pos 4096) × OnLeg (stored s) (pos 1))

@@ -1,13 +1,12 @@
 -- Every node of a well-formed list is lawful, on every leg.
 use Rattle.std.specs.Prelude.{◌≡◌, ℕ, ◌<◌, List, length, ℤ, pos, ◌+ℤ◌, ◌-ℤ◌, ◌*ℤ◌, ◌≤ℤ◌}
 use Rattle.std.proofs.Math.Path.{refl}
-use Rattle.std.proofs.Common.{sym, subst, ◌∙◌, arith}
+use Rattle.std.proofs.Common.{sym, subst}
 use Rattle.std.specs.Int.{int_max}
-use Rattle.std.proofs.lemmas.Int.{ints}
-use Rattle.integer.specs.Numbers.{Within, absℤ}
+use Rattle.integer.specs.Numbers.{Within}
 use Rattle.integer.proofs.Ring.{ring, ◌:+◌, ◌:-◌, ◌:*◌, con, ◌:=◌}
-use Rattle.integer.proofs.Order.{≤ℤ_trans, natural≥0, gap, sum≥0, product≥0, by_gap}
-use Rattle.integer.proofs.Absolute.{abs≥0, under, over, within_from, within_same, within_wider}
+use Rattle.integer.proofs.Order.{≤ℤ_trans, natural≥0, gap, ≥0_same, sum≥0, product≥0, by_gap, by_multiple}
+use Rattle.integer.proofs.Absolute.{abs≥0, within_from, within_same, within_sum, within_wider}
 use Rattle.integer.proofs.Extremes.{max_first}
 use Rattle.leg.specs.declared.shapes.Leg.{Leg}
 use Rattle.leg.specs.Ranges.{IsPiece}
@@ -23,25 +22,32 @@ use Rattle.nodes.specs.Meanings.{Value, values, steepnesses, reaches, forms, val
 use Rattle.nodes.specs.Formed.{WellFormed, reach_bound}
 use Rattle.nodes.specs.Laws.{Laws, EveryNodeIsLawful}
 use Rattle.nodes.specs.TablesLemmas.{related_results, mapped_results}
-use Rattle.nodes.specs.Lawful.{Span, Meaning, Lawful, Near, NearForm, meanings}
+use Rattle.nodes.specs.Numbers.{natural≤}
+use Rattle.nodes.specs.Lawful.{Span, Meaning, Lawful, Near, meanings}
 use Rattle.nodes.specs.Combining.{middle_on_leg, form_spread, sum_lawful, lesser_lawful, greater_lawful, opposite_lawful}
 use Rattle.nodes.specs.QuadricsLemmas.{quadric_lawful}
 
 pub piece_spans : (m r : ℕ) → IsPiece m r → Span (pos m) (pos r)
 piece_spans m r piece =
-    let some = piece.0 in let span = piece_span m r piece in let from = span.0 in let to = span.1 in
-    record { wide = omega (arith, ints); from = omega (arith, ints); to = omega (arith, ints) }
+    let span = piece_span m r piece in
+    record { wide = natural≤ piece.0; from = natural≤ span.0; to = natural≤ span.1 }
 
 -- over plain numbers: the ends are in order, and each lies on its side within d
 low_within : (v d lo hi : ℤ) → lo ≤ℤ hi → Near v d lo hi → Within (lo -ℤ v) d
-low_within v d lo hi h n = let a = n.low in let b = n.high in within_from (lo -ℤ v) d (omega (arith, ints)) (omega (arith, ints))
+low_within v d lo hi h n =
+    within_from (lo -ℤ v) d
+    (≥0_same (gap (≤ℤ_trans h n.high)) (ring 3 (λ v d lo. (v :+ d) :- lo := d :- (lo :- v)) refl v d lo))
+    (≥0_same (gap n.low) (ring 3 (λ v d lo. lo :- (v :- d) := d :+ (lo :- v)) refl v d lo))
 
 high_within : (v d lo hi : ℤ) → lo ≤ℤ hi → Near v d lo hi → Within (hi -ℤ v) d
-high_within v d lo hi h n = let a = n.low in let b = n.high in within_from (hi -ℤ v) d (omega (arith, ints)) (omega (arith, ints))
+high_within v d lo hi h n =
+    within_from (hi -ℤ v) d
+    (≥0_same (gap n.high) (ring 3 (λ v d hi. (v :+ d) :- hi := d :- (hi :- v)) refl v d hi))
+    (≥0_same (gap (≤ℤ_trans n.low h)) (ring 3 (λ v d hi. hi :- (v :- d) := d :+ (hi :- v)) refl v d hi))
 
 -- the value is within R, and d ≤ R
 end_in_reach : (v d g e : ℤ) → Within v g → d ≤ℤ g → Within (e -ℤ v) d → Within e (g +ℤ g)
-end_in_reach v d g e v-in d≤ e-in = let a = under v-in in let b = over v-in in let x = under e-in in let y = over e-in in within_from e (g +ℤ g) (omega (arith, ints)) (omega (arith, ints))
+end_in_reach v d g e v-in d≤ e-in = within_same (within_sum v-in (within_wider e-in d≤)) (ring 2 (λ v e. v :+ (e :- v) := e) refl v e) refl
 
 module _ (a : Meaning) (law : Lawful a) (m r : ℤ) (span : Span m r) where
   ordered : low_end (a.form m r) ≤ℤ high_end (a.form m r)
@@ -60,7 +66,9 @@ module _ (a : Meaning) (law : Lawful a) (m r : ℤ) (span : Span m r) where
       (ring 3 (λ l r g. l :* (con (pos 2048) :- r) :+ (g :- con (pos 2048) :* l) := g :- l :* r) refl a.steepness r a.reach)
     where
       narrow : r ≤ℤ pos 2048
-      narrow = let f = span.from in let t = span.to in omega (arith, ints)
+      narrow =
+          by_multiple (pos 2) r (pos 2048) _ (record { le = tt }) (sum≥0 (gap span.from) (gap span.to))
+          (ring 2 (λ m r. (m :- r) :+ (con (pos 4096) :- (m :+ r)) := con (pos 2) :* (con (pos 2048) :- r)) refl m r)
 
   middle_in_reach : Within (a.value m (pos 1)) a.reach
   middle_in_reach = within_same (law.in_reach m (pos 1) (middle_on_leg m r span)) refl (ring 1 (λ g. g :* (con (pos 1) :* con (pos 1)) := g) refl a.reach)
@@ -74,7 +82,9 @@ module _ (a : Meaning) (law : Lawful a) (m r : ℤ) (span : Span m r) where
   }
     where
       twice : (a.reach +ℤ a.reach) ≤ℤ pos 2305843009213693952
-      twice = omega (arith, ints)
+      twice =
+          by_gap _ _ _ (sum≥0 (gap limit) (gap limit))
+          (ring 1 (λ g. (con reach_bound :- g) :+ (con reach_bound :- g) := con (pos 2305843009213693952) :- (g :+ g)) refl a.reach)
 
 -- ---- all nodes
 
@@ -151,7 +161,7 @@ every_node_is_lawful nodes formed leg i i< =
 
 -- 0 ≤ 2048 L ≤ R
 steepness≤ : (l g : ℤ) → pos 0 ≤ℤ l → (pos 2048 *ℤ l) ≤ℤ g → l ≤ℤ g
-steepness≤ l g h k = omega (arith, ints)
+steepness≤ l g h k = by_gap _ _ _ (sum≥0 (gap k) (product≥0 (natural≥0 2047) h)) (ring 2 (λ l g. (g :- con (pos 2048) :* l) :+ con (pos 2047) :* l := g :- l) refl l g)
 
 quadric_reach≥0 : (node : Node) → pos 0 ≤ℤ quadric_reach node
 unfolding quadric_reach
@@ -177,7 +187,7 @@ reach≥0 nodes formed =
     })
 
 within_limit : (x : ℤ) → pos 0 ≤ℤ x → x ≤ℤ reach_bound → Within x (pos 1152921504606846976)
-within_limit x h k = within_from x (pos 1152921504606846976) (omega (arith, ints)) (omega (arith, ints))
+within_limit x h k = record { above = ≤ℤ_trans (record { le = tt }) h; below = k }
 
 pub steepness_small : (nodes : List Node) → WellFormed nodes → (leg : Leg) (i : ℕ) → i < length nodes → Within (steepness_of leg nodes i) (pos 1152921504606846976)
 steepness_small nodes formed leg i i< =

@@ -1,5 +1,5 @@
 -- What a node means on one leg, and the laws of it that every operation keeps.
-use Rattle.std.specs.Prelude.{◌≡◌, ℤ, pos, ◌+ℤ◌, ◌-ℤ◌, ◌*ℤ◌, neg_ℤ, ◌≤ℤ◌}
+use Rattle.std.specs.Prelude.{◌≡◌, ℤ, pos, ◌+ℤ◌, ◌-ℤ◌, ◌*ℤ◌, ◌≤ℤ◌}
 use Rattle.integer.specs.Numbers.{Within}
 use Rattle.leg.specs.declared.shapes.Leg.{Leg}
 use Rattle.leg.specs.Places.{OnLeg, OnPiece}

@@ -7,7 +7,7 @@ use Rattle.leg.specs.declared.shapes.HalfStep.{HalfStep}
 use Rattle.leg.specs.declared.shapes.Piece.{Piece}
 use Rattle.leg.specs.Places.{coordinate, On}
 use Rattle.affine.specs.declared.Form.{Form}
-use Rattle.affine.specs.Forms.{sum_of, scaled_by, shifted_by, opposite_of, lesser_of, greater_of}
+use Rattle.affine.specs.Forms.{sum_of, scaled_by, shifted_by}
 use Rattle.affine.specs.Fits.{Bounded, EndsWithin}
 use Rattle.affine.specs.Holding.{Holds}
 use Rattle.nodes.specs.declared.node.Node.{Node}

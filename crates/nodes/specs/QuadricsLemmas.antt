@@ -1,16 +1,15 @@
 -- A quadric is lawful: it is the sum of one part for each axis, s D² + 4096 l D, and a constant. Each part is lawful, and so is their sum.
-use Rattle.std.specs.Prelude.{◌≡◌, ℤ, pos, negsuc, ◌+ℤ◌, ◌-ℤ◌, ◌*ℤ◌, ◌≤ℤ◌}
+use Rattle.std.specs.Prelude.{◌≡◌, ℤ, pos, ◌+ℤ◌, ◌-ℤ◌, ◌*ℤ◌, ◌≤ℤ◌}
 use Rattle.std.proofs.Math.Path.{refl, ap}
-use Rattle.std.proofs.Common.{sym, ap₂, subst, ◌∙◌, arith}
-use Rattle.std.proofs.lemmas.Int.{ints}
+use Rattle.std.proofs.Common.{sym, ap₂, subst, ◌∙◌}
 use Rattle.integer.specs.Numbers.{Within, absℤ}
 use Rattle.integer.proofs.Ring.{ring, ◌:+◌, ◌:-◌, ◌:*◌, con, ◌:=◌}
-use Rattle.integer.proofs.Order.{natural≥0, weaker, gap, sum≥0, product≥0, product≥1, by_gap}
+use Rattle.integer.proofs.Order.{≤ℤ_trans, natural≥0, weaker, gap, sum≥0, product≥0, product≥1, by_gap}
 use Rattle.integer.proofs.Absolute.{abs≥0, abs_of, abs_product, abs_least, within_natural, within_same, within_self, within_neg, within_sum, within_product, within_abs}
 use Rattle.leg.specs.declared.shapes.Leg.{Leg}
 use Rattle.leg.specs.Places.{OnLeg, OnPiece}
 use Rattle.affine.specs.declared.Form.{Form}
-use Rattle.affine.specs.Forms.{sum_of, scaled_by, low_end, high_end}
+use Rattle.affine.specs.Forms.{sum_of, scaled_by}
 use Rattle.affine.specs.Holding.{Holds}
 use Rattle.affine.proofs.Ends.{same_form}
 use Rattle.affine.proofs.Holding.{holds_sum, scaled_holds, rescaled_holds}
@@ -27,7 +26,12 @@ near_narrow : (v d : ℤ) (u : Form) → u.u0 ≡ v → (absℤ u.u1 +ℤ u.u2) 
 near_narrow v d u e h = plain u.u0 (absℤ u.u1) u.u2 e h
   where
     plain : (a b c : ℤ) → a ≡ v → (b +ℤ c) ≤ℤ d → Near v d (a -ℤ b -ℤ c) (a +ℤ b +ℤ c)
-    plain a b c e h = record { low = omega (arith, ints); high = omega (arith, ints) }
+    plain a b c e h =
+        subst (λ (x : ℤ). Near x d (a -ℤ b -ℤ c) (a +ℤ b +ℤ c)) e
+        (record {
+          low = by_gap _ _ _ (gap h) (ring 4 (λ a b c d. d :- (b :+ c) := (a :- b :- c) :- (a :- d)) refl a b c d);
+          high = by_gap _ _ _ (gap h) (ring 4 (λ a b c d. d :- (b :+ c) := (a :+ d) :- (a :+ b :+ c)) refl a b c d);
+        })
 
 -- a number that changes by d in each half-step, and is x at the middle
 line_holds : (m r p q x d : ℤ) → pos 1 ≤ℤ q → Holds m r p q (line_of x (d *ℤ r)) (x *ℤ q +ℤ d *ℤ (p -ℤ m *ℤ q)) q
@@ -168,13 +172,15 @@ module _ (a b c s l : ℤ) where
         := (con (pos 4096) :* a :* con (pos 1) :+ (b :- a) :* m :- con (pos 4096) :* c :* con (pos 1)) :- (b :- a) :* r) refl a b c m r) refl)
       where
         from_end : pos 0 ≤ℤ (m +ℤ r)
-        from_end = let w = span.wide in let f = span.from in omega (arith, ints)
+        from_end = sum≥0 (≤ℤ_trans (weaker span.wide) span.from) (weaker span.wide)
 
         to_end : (m +ℤ r) ≤ℤ (pos 4096 *ℤ pos 1)
         to_end = span.to
 
         to_start : (m -ℤ r) ≤ℤ (pos 4096 *ℤ pos 1)
-        to_start = let w = span.wide in let t = span.to in omega (arith, ints)
+        to_start =
+            by_gap _ _ _ (sum≥0 (gap span.to) (sum≥0 (weaker span.wide) (weaker span.wide)))
+            (ring 2 (λ m r. (con (pos 4096) :- (m :+ r)) :+ (r :+ r) := con (pos 4096) :* con (pos 1) :- (m :- r)) refl m r)
 
     axis_near : (m r : ℤ) → Span m r → NearForm (axis_value a b c s l m (pos 1)) (axis_steepness a b s l *ℤ r) (axis_form a b c s l m r)
     axis_near m r span =

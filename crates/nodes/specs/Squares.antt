@@ -1,7 +1,6 @@
 -- The laws of a form's square. Nothing else looks into it.
 use Rattle.std.specs.Prelude.{◌≡◌, ℕ, ◌+◌, ◌*◌, ℤ, pos, ◌+ℤ◌, ◌*ℤ◌, ◌≤ℤ◌, refl}
-use Rattle.std.proofs.Common.{arith}
-use Rattle.std.proofs.lemmas.Int.{ints}
+use Rattle.std.proofs.Math.Nat.{le_trans, le-add_right}
 use Rattle.integer.specs.Numbers.{absℤ}
 use Rattle.integer.proofs.Ring.{ring, ◌:+◌, ◌:*◌, con, ◌:=◌}
 use Rattle.integer.proofs.Absolute.{within_sum, within_product, within_abs_self, within_wider}
@@ -13,6 +12,7 @@ use Rattle.affine.specs.Holding.{Holds}
 use Rattle.affine.proofs.Ends.{same_form}
 use Rattle.affine.proofs.Holding.{product_holds}
 use Rattle.nodes.specs.Quadrics.{square_of, line_of}
+use Rattle.nodes.specs.Numbers.{natural≤}
 
 -- it is the product
 pub square_is : (u : Form) → product_of u u ≡ square_of u
@@ -42,7 +42,7 @@ bounded_square {k} a = record {
 }
   where
     fewer : (x y z : ℕ) → pos x ≤ℤ pos (x + y + z)
-    fewer x y z = omega (arith, ints)
+    fewer x y z = natural≤ (le_trans (le-add_right x y) (le-add_right (x + y) z))
 
     first_two : (x y : ℕ) → pos x ≤ℤ pos (x + y)
-    first_two x y = omega (arith, ints)
+    first_two x y = natural≤ (le-add_right x y)

@@ -1,11 +1,12 @@
 -- Laws of the one text that works through a table, in any algebra.
-use Rattle.std.specs.Prelude.{◌≡◌, ℕ, zero, suc, ◌+◌, ◌<◌, Bool, true, false, cond, List, [], ◌∷◌, ◌++◌, length, ℤ, pos, negsuc, ◌<ℤ◌, slice_index_or, unsigned_abs}
+use Rattle.std.specs.Prelude.{◌≡◌, ℕ, zero, suc, ◌+◌, ◌<◌, Bool, true, false, cond, List, [], ◌∷◌, ◌++◌, length, ℤ, pos, negsuc, slice_index_or, unsigned_abs}
 use Rattle.std.proofs.Math.Path.{refl, sym, ap}
 use Rattle.std.proofs.Common.{ap₂, subst, subst₂, ◌∙◌}
-use native.Mathlib.Omega.{arith}
+use Rattle.std.proofs.Math.Nat.{add-zero, zero-add, add_assoc, add_comm, le-add_right, le_of_suc-le-suc, not-suc-le-zero, lt_of_lt_of_le, lt_trans, lt-suc_self}
+use Rattle.std.proofs.Math.Numerals.{suc-eq-add-one, lt-add-one}
+use Rattle.std.proofs.Math.Dec.{ltb→lt}
 use Rattle.std.proofs.Math.ListN.{length-append, get_or-append}
 use Rattle.std.proofs.Math.Seq.{get_or-append_seam}
-use Rattle.std.proofs.lemmas.Int.{ints}
 use Rattle.nodes.specs.declared.node.Node.{Node}
 use Rattle.nodes.specs.declared.node.Shape.{Shape}
 use Rattle.nodes.specs.declared.node.Shape.TheVariants.{Quadric, Sum, Union, Common, Outside}
@@ -32,35 +33,36 @@ module _ {A : Type 0} (al : Algebra A) where
   keeps done [] i i< = refl
   keeps done (node ∷ rest) i i< =
       let longer : length (done ++ (given al (at al done) node ∷ [])) ≡ length done + 1 = length-append done (given al (at al done) node ∷ []) in
-      keeps (done ++ (given al (at al done) node ∷ [])) rest i (omega arith)
+      keeps (done ++ (given al (at al done) node ∷ [])) rest i (subst (λ (n : ℕ). i < n) (sym longer) (lt_of_lt_of_le i< (le-add_right (length done) 1)))
       ∙ get_or-append done (given al (at al done) node ∷ []) al.unknown i i<
 
   -- each result follows from its node and the results of the table
   follows : (done : List A) (nodes : List Node) (i : ℕ) → i < length nodes → Earlier (length done + i) (shape_of (slice_index_or nodes i no_node)) →
       at al (work al done nodes) (length done + i) ≡ given al (at al (work al done nodes)) (slice_index_or nodes i no_node)
   unfolding work
-  follows done [] i i< e = absurd (omega arith)
+  follows done [] i i< e = absurd (not-suc-le-zero i<)
   follows done (node ∷ rest) zero i< e =
       let more : List A = done ++ (given al (at al done) node ∷ []) in
       let longer : length (done ++ (given al (at al done) node ∷ [])) ≡ length done + 1 = length-append done (given al (at al done) node ∷ []) in
-      let last : length done + 0 ≡ length done = omega arith in
+      let last : length done + 0 ≡ length done = add-zero (length done) in
       ap (at al (work al more rest)) last
-      ∙ keeps more rest (length done) (omega arith)
+      ∙ keeps more rest (length done) (subst (λ (n : ℕ). length done < n) (sym longer) (lt-add-one (length done)))
       ∙ get_or-append_seam done (given al (at al done) node) [] al.unknown
       ∙ same_look al (at al done) (at al (work al more rest)) (length done)
-      (λ k k<. sym (keeps more rest k (omega arith) ∙ get_or-append done (given al (at al done) node ∷ []) al.unknown k k<))
+      (λ k k<. sym (keeps more rest k (subst (λ (n : ℕ). k < n) (sym longer) (lt_of_lt_of_le k< (le-add_right (length done) 1))) ∙ get_or-append done (given al (at al done) node ∷ []) al.unknown k k<))
       node (shape_of node) (subst (λ (n : ℕ). Earlier n (shape_of node)) last e)
   follows done (node ∷ rest) (suc i) i< e =
       let more : List A = done ++ (given al (at al done) node ∷ []) in
       let longer : length (done ++ (given al (at al done) node ∷ [])) ≡ length done + 1 = length-append done (given al (at al done) node ∷ []) in
-      let place : length (done ++ (given al (at al done) node ∷ [])) + i ≡ length done + suc i = omega arith in
+      let place : length (done ++ (given al (at al done) node ∷ [])) + i ≡ length done + suc i =
+      ap (λ (n : ℕ). n + i) longer ∙ add_assoc (length done) 1 i ∙ ap (λ (n : ℕ). length done + n) (add_comm 1 i ∙ sym (suc-eq-add-one i)) in
       ap (at al (work al more rest)) (sym place)
-      ∙ follows more rest i (omega arith) (subst (λ (n : ℕ). Earlier n (shape_of (slice_index_or rest i no_node))) (sym place) e)
+      ∙ follows more rest i (le_of_suc-le-suc i<) (subst (λ (n : ℕ). Earlier n (shape_of (slice_index_or rest i no_node))) (sym place) e)
 
   pub result_follows : (nodes : List Node) (i : ℕ) → i < length nodes → Earlier i (shape_of (slice_index_or nodes i no_node)) →
       result_of al nodes i ≡ given al (result_of al nodes) (slice_index_or nodes i no_node)
   result_follows nodes i i< e =
-      let place : 0 + i ≡ i = omega arith in
+      let place : 0 + i ≡ i = zero-add i in
       ap (result_of al nodes) (sym place) ∙ follows [] nodes i i< (subst (λ (n : ℕ). Earlier n (shape_of (slice_index_or nodes i no_node))) (sym place) e)
 
   -- one more node at the end adds its result and leaves the others
@@ -83,7 +85,7 @@ pub record Related {A B : Type 0} (al : Algebra A) (bl : Algebra B) (R : A → B
 
 -- the number of an earlier node
 pub refers_under : {i : ℕ} (z : ℤ) → Refers i z → unsigned_abs z < i
-refers_under {i} (pos n) r = let h = r.to in omega (arith, ints)
+refers_under {i} (pos n) r = ltb→lt n i r.to.lt
 refers_under (negsuc n) r = absurd r.from.le
 
 -- a node names earlier nodes only, whichever kind it has
@@ -114,14 +116,14 @@ module _ (nodes : List Node) (formed : WellFormed nodes) where
     related_given look look' i below node (Outside a) e k = related.opposite _ _ (below a e)
 
     related_below : (n i : ℕ) → i < n → i < length nodes → R (result_of al nodes i) (result_of bl nodes i)
-    related_below zero i i<n i< = absurd (omega arith)
+    related_below zero i i<n i< = absurd (not-suc-le-zero i<n)
     related_below (suc n) i i<n i< =
         subst₂ R (sym (result_follows al nodes i i< (earlier i i<))) (sym (result_follows bl nodes i i< (earlier i i<)))
-        (related_given (result_of al nodes) (result_of bl nodes) i (λ k k<. related_below n k (omega arith) (omega arith)) (slice_index_or nodes i no_node) (shape_of (slice_index_or nodes i no_node)) (earlier i i<) (formed.keeps i i<))
+        (related_given (result_of al nodes) (result_of bl nodes) i (λ k k<. related_below n k (lt_of_lt_of_le k< (le_of_suc-le-suc i<n)) (lt_trans k< i<)) (slice_index_or nodes i no_node) (shape_of (slice_index_or nodes i no_node)) (earlier i i<) (formed.keeps i i<))
 
     -- then each node's results are related
     pub related_results : (i : ℕ) → i < length nodes → R (result_of al nodes i) (result_of bl nodes i)
-    related_results i i< = related_below (suc i) i (omega arith) i<
+    related_results i i< = related_below (suc i) i (lt-suc_self i) i<
 
 -- ---- a map from one algebra to another
 

@@ -1,11 +1,10 @@
 -- Coordinates, and one axis of a quadric, in 64 bits: each step's number and bound, as the code's expressions go.
 use Rattle.std.specs.Prelude.{◌≡◌, ℤ, pos, ◌+ℤ◌, ◌-ℤ◌, ◌*ℤ◌, refl}
-use Rattle.std.proofs.Common.{◌∙◌, arith}
-use Rattle.std.proofs.lemmas.Int.{ints}
+use Rattle.std.proofs.Common.{◌∙◌}
 use Rattle.integer.specs.Numbers.{Within}
 use Rattle.integer.proofs.Ring.{ring, ◌:+◌, ◌:-◌, ◌:*◌, con, ◌:=◌}
-use Rattle.integer.proofs.Order.{gap}
-use Rattle.integer.proofs.Absolute.{within_from, within_same, within_self, within_sum, within_product}
+use Rattle.integer.proofs.Order.{≤ℤ_trans, gap}
+use Rattle.integer.proofs.Absolute.{within_same, within_self, within_sum, within_product}
 use Rattle.integer.proofs.Machine.{Is, stored, is, is_of, is_numeral, is_stored, is_sum, is_difference, is_product}
 use Rattle.leg.specs.Places.{OnLeg, coordinate}
 use Rattle.nodes.specs.Locations.{whole_axis}
@@ -13,7 +12,7 @@ use Rattle.nodes.specs.Locations.{whole_axis}
 -- ---- coordinates
 
 pub step_in : (s : ℤ) → OnLeg s (pos 1) → Within s (pos 4096)
-step_in s at = let a = at.from in let b = at.to in within_from s (pos 4096) (omega (arith, ints)) (omega (arith, ints))
+step_in s at = record { above = ≤ℤ_trans (record { le = tt }) at.from; below = at.to }
 
 -- a place is a weighted mean of the two ends
 pub coordinate_in : (a b s : ℤ) → Within a (pos 4096) → Within b (pos 4096) → OnLeg s (pos 1) → Within (coordinate a b s (pos 1)) (pos 16777216)

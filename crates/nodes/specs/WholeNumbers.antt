@@ -1,6 +1,6 @@
 -- Whole numbers at a half-step of a leg are the values of the nodes there, and none is too large.
-use Rattle.std.specs.Prelude.{◌≡◌, ℕ, ◌<◌, List, length, ℤ, pos, ◌*ℤ◌, refl}
-use Rattle.std.proofs.Common.{sym, ap, ap₂, subst, ◌∙◌}
+use Rattle.std.specs.Prelude.{◌≡◌, ℕ, ◌<◌, List, length, ℤ, pos, refl}
+use Rattle.std.proofs.Common.{sym, ap, ap₂, subst}
 use Rattle.integer.specs.Numbers.{Within}
 use Rattle.integer.proofs.Ring.{ring, ◌:+◌, ◌:-◌, ◌:*◌, con, ◌:=◌}
 use Rattle.integer.proofs.Order.{natural≥0}
@@ -11,12 +11,12 @@ use Rattle.leg.specs.Places.{coordinate}
 use Rattle.affine.specs.declared.Form.{Form}
 use Rattle.affine.specs.Fits.{Bounded}
 use Rattle.nodes.specs.declared.node.Node.{Node}
-use Rattle.nodes.specs.Tables.{Algebra, result_of}
+use Rattle.nodes.specs.Tables.{result_of}
 use Rattle.nodes.specs.Quadrics.{quadric_value}
 use Rattle.nodes.specs.Meanings.{Value, values, value_of}
 use Rattle.nodes.specs.Formed.{WellFormed}
 use Rattle.nodes.specs.Locations.{AxesBounded, algebra, whole, whole_axes, whole_quadric, whole_sum, whole_lesser, whole_greater, whole_opposite, WholeFits, WholeHolds}
-use Rattle.nodes.specs.TablesLemmas.{Related, related_results}
+use Rattle.nodes.specs.TablesLemmas.{related_results}
 use Rattle.nodes.specs.QuadricsLemmas.{x1_in, x2_in, y1_in, y2_in, z1_in, z2_in}
 use Rattle.nodes.specs.WholeCode.{coordinate_in}
 use Rattle.nodes.specs.Ends.{step_on_leg}

@@ -1,5 +1,4 @@
-use Rattle.std.proofs.Common.{◌≡◌, ℕ, suc, ◌+◌, ◌-◌, List, [], ◌∷◌, ◌++◌, length, get_or, take, sym, ap, ◌∙◌, subst, add-one, arith, length-take, take_all, take-suc}
-use Rattle.nodes.specs.declared.node.Node.{Node}
+use Rattle.std.proofs.Common.{◌≡◌, ℕ, ◌-◌, [], ◌∷◌, ◌++◌, get_or, take, sym, ap, ◌∙◌, subst, add-one, arith, length-take, take_all, take-suc}
 use Rattle.nodes.specs.Formed.{WellFormed, no_node}
 use Rattle.nodes.proofs.Growing.{empty_well_formed}
 use Rattle.nodes_tests.proofs.build.Goals as goal

@@ -1,13 +1,12 @@
 use Rattle.std.proofs.Common.{◌≡◌, ℕ, ◌<◌, length, get_or, sym, ap, ◌∙◌, subst, arith, length-set}
 use Rattle.affine.specs.declared.Form.{Form}
 use Rattle.nodes.specs.declared.axes.Axes.{Axes}
-use Rattle.nodes.specs.declared.node.Shape.{Shape}
 use Rattle.nodes.specs.declared.node.Shape.TheVariants.{Quadric, Sum, Union, Common, Outside}
-use Rattle.nodes.specs.Tables.{Algebra, Earlier, at, combined, result_of}
+use Rattle.nodes.specs.Tables.{Algebra, Earlier, result_of}
 use Rattle.nodes.specs.Meanings.{Value, values, zero_form}
 use Rattle.nodes.specs.Formed.{Keeps, no_node}
 use Rattle.nodes.specs.Locations.{algebra}
-use Rattle.nodes.specs.TablesLemmas.{Related, earlier, related_results}
+use Rattle.nodes.specs.TablesLemmas.{earlier, related_results}
 use Rattle.nodes.proofs.Steps.{next_is, small_entry, small_next, stored_entry}
 use Rattle.nodes.proofs.arithmetic.evaluate.Given as given
 use Rattle.nodes.proofs.arithmetic.evaluate.Goals as goal

@@ -1,4 +1,4 @@
-use Rattle.integer.proofs.Machine.{Is, fits, within, is, is_stored, is_difference, is_product}
+use Rattle.integer.proofs.Machine.{fits, within, is, is_stored, is_difference, is_product}
 use Rattle.nodes.proofs.axes.change.Goals as goal
 
 pub overflow_mul-result : goal.overflow_mul-result

@@ -1,13 +1,12 @@
-use Rattle.std.proofs.Common.{◌≡◌, ℕ, ◌<◌, ◌≤◌, length, get_or, ℤ, pos, refl, ◌∙◌, arith, length-set}
+use Rattle.std.proofs.Common.{◌<◌, ◌≤◌, length, get_or, ℤ, pos, refl, ◌∙◌, arith, length-set}
 use Rattle.integer.specs.Numbers.{Within}
 use Rattle.integer.proofs.Machine.{kept}
-use Rattle.nodes.specs.Tables.{Algebra, shape_of, result_of}
+use Rattle.nodes.specs.Tables.{Algebra, shape_of}
 use Rattle.nodes.specs.Meanings.{extents}
 use Rattle.nodes.specs.Formed.{no_node}
 use Rattle.nodes.specs.TablesLemmas.{earlier}
 use Rattle.nodes.proofs.Steps.{next_is, small_entry, stored_entry}
 use Rattle.nodes.proofs.ExtentCode.{ready}
-use Rattle.nodes.proofs.extents.extents.Given as given
 use Rattle.nodes.proofs.extents.extents.Goals as goal
 
 pub extent_of-requires : goal.extent_of-requires

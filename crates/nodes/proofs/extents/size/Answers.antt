@@ -1,4 +1,3 @@
-use Rattle.std.proofs.Common.{ℤ}
 use Rattle.integer.proofs.Machine.{is, is_stored, is_abs, is_sum}
 use Rattle.nodes.proofs.extents.size.Goals as goal
 

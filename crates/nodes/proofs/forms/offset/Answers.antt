@@ -1,7 +1,7 @@
 use Rattle.std.proofs.Common.{ℤ, sym, ap, ◌∙◌, subst}
-use Rattle.integer.proofs.Machine.{fits, within, is, is_stored, is_product}
+use Rattle.integer.proofs.Machine.{within, is, is_stored, is_product}
 use Rattle.affine.specs.Forms.{shifted_by}
-use Rattle.affine.specs.Fits.{Bounded, ShiftedFits}
+use Rattle.affine.specs.Fits.{Bounded}
 use Rattle.affine.proofs.Fitting.{shifted_fits}
 use Rattle.nodes.proofs.Bounds.{bounded_shifted, is_down}
 use Rattle.nodes.proofs.forms.offset.Goals as goal

@@ -1,4 +1,4 @@
-use Rattle.std.proofs.Common.{◌≡◌, Bool, false, length, ℤ, sym, ap, ◌∙◌, subst}
+use Rattle.std.proofs.Common.{◌≡◌, false, length, ℤ, sym, ◌∙◌, subst}
 use lib.Signed.{le_z, lt_z}
 use Rattle.integer.proofs.Machine.{kept}
 use Rattle.nodes.specs.Tables.{shape_of}

@@ -1,6 +1,5 @@
-use Rattle.std.proofs.Common.{ℤ, sym, ap, ◌∙◌, subst, ap₂}
+use Rattle.std.proofs.Common.{sym, ◌∙◌, subst, ap₂}
 use Rattle.integer.proofs.Machine.{fits, within, is, is_numeral, is_stored, is_product}
-use Rattle.affine.specs.declared.Form.{Form}
 use Rattle.affine.specs.Forms.{sum_of, shifted_by}
 use Rattle.affine.specs.Fits.{Bounded}
 use Rattle.affine.proofs.Fitting.{sum_fits, shifted_fits}
