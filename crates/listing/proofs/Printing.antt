@@ -1,9 +1,8 @@
 -- What a check answers can be printed.
-use Rattle.std.proofs.Common.{◌≡◌, ℕ, zero, suc, ◌<◌, ◌≤◌, ◌⊎◌, List, ℤ, pos, negsuc, nat_abs, ◌≤ℤ◌, sym, refl, ap, ◌∙◌, subst, inl, inr, arith}
+use Rattle.std.proofs.Common.{◌≡◌, ℕ, zero, suc, ◌<◌, ◌≤◌, List, ℤ, pos, negsuc, nat_abs, ◌≤ℤ◌, sym, refl, subst, arith}
 use borrow.Author.Differences.{ints}
 use Rattle.integer.specs.Numbers.{Within}
 use Rattle.integer.proofs.Absolute.{within_from}
-use Rattle.leg.specs.Ranges.{InRange}
 use Rattle.leg_check.specs.Promise.{Row, Promise}
 use Rattle.leg_check.specs.Relation.{Relation}
 use Rattle.sheet.specs.Calls.{SheetData}

@@ -1,5 +1,5 @@
 -- The scaled coordinate of a piece's start in 64 bits.
-use Rattle.std.proofs.Common.{◌≡◌, ℤ, pos, ◌+ℤ◌, ◌-ℤ◌, ◌*ℤ◌, ap, ◌∙◌}
+use Rattle.std.proofs.Common.{ℤ, pos, ◌+ℤ◌, ◌-ℤ◌, ◌*ℤ◌}
 use Rattle.integer.specs.Numbers.{Within}
 use Rattle.integer.proofs.Machine.{stored, Is, is, is_numeral, is_stored, is_sum, is_difference, is_product}
 

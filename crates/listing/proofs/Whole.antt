@@ -1,5 +1,5 @@
 -- The whole listing: what it is made of, that every row keeps the promise, and that the order of columns does not matter.
-use Rattle.std.proofs.Common.{◌≡◌, ℕ, Bool, true, false, cond, eqb, List, [], ◌++◌, length, IfOk, Some, None, Ok, Err, Option, Result, sym, refl, ap, ◌∙◌, subst, ap₂, arith}
+use Rattle.std.proofs.Common.{◌≡◌, ℕ, Bool, true, false, cond, eqb, List, length, IfOk, Some, None, Ok, Err, Option, Result, sym, refl, ap, ◌∙◌, subst, ap₂, arith}
 use Rattle.std.specs.declared.alloc.AllocError.{AllocError}
 use Rattle.std.proofs.lemmas.Result.{IfOk-weaker}
 use Rattle.std.proofs.lemmas.Bool.{eqb-true}
@@ -7,10 +7,8 @@ use Rattle.refusal.specs.declared.Fault.{Fault}
 use Rattle.refusal.specs.Numbers.{fault}
 use Rattle.table.specs.declared.table.Table.TheVariants.{Nodes, Areas, Legs}
 use Rattle.table.specs.Names.{column_names}
-use Rattle.table.specs.Reading.{Reading, body, reading}
-use Rattle.table.specs.Rearranged.{Rearranged}
+use Rattle.table.specs.Reading.{body, reading}
 use Rattle.table.proofs.Alike.{alike}
-use Rattle.field.specs.Meaning.{Laws}
 use Rattle.lattice.specs.Meaning.{terrain_of}
 use Rattle.lattice.proofs.Lawful.{terrain_laws}
 use Rattle.terrain.specs.Rows.{heights_of, file_refusal, file_heights}

@@ -1,5 +1,5 @@
 -- The sheet that two tables of text load: each row is a call, made before the next line is looked at.
-use Rattle.std.specs.Prelude.{◌≡◌, ℕ, ◌+◌, cond, List, [], ◌∷◌, ◌++◌, map, ℤ, pos, Some, None, Ok, Err, Option, Result, ◌==◌, slice_index_or}
+use Rattle.std.specs.Prelude.{ℕ, ◌+◌, cond, List, [], ◌∷◌, ◌++◌, map, ℤ, pos, Some, None, Ok, Err, Option, Result, ◌==◌, slice_index_or}
 use Rattle.refusal.specs.declared.Fault.{Fault}
 use Rattle.refusal.specs.Numbers.{fault}
 use Rattle.table.specs.declared.table.Table.TheVariants.{Nodes, Areas}

@@ -1,5 +1,5 @@
 -- The promise follows from the answer being that of the rules.
-use Rattle.std.proofs.Common.{◌≡◌, ℕ, ◌+◌, ◌^◌, ◌<◌, ◌≤◌, Bool, true, false, cond, List, length, get_or, ℤ, pos, ◌+ℤ◌, ◌≤ℤ◌, ◌<ℤ◌, Some, None, Ok, Err, Option, Result, sym, refl, ap, ◌∙◌, subst, arith, MatchResult}
+use Rattle.std.proofs.Common.{◌≡◌, ℕ, ◌+◌, ◌^◌, ◌≤◌, Bool, true, false, cond, length, ℤ, pos, ◌+ℤ◌, ◌≤ℤ◌, ◌<ℤ◌, Ok, Err, Result, sym, refl, ap, ◌∙◌, subst, arith, MatchResult}
 use borrow.Author.Differences.{ints}
 use lib.Signed.{le_z}
 use Rattle.std.specs.Int.{int_min, int_max}
@@ -8,28 +8,23 @@ use Rattle.std.proofs.lemmas.Bool.{cond-true, cond-false}
 use Rattle.refusal.specs.declared.Refusal.{Refusal}
 use Rattle.refusal.specs.Numbers.{number_of}
 use Rattle.leg.specs.declared.shapes.Leg.{Leg}
-use Rattle.leg.specs.Places.{OnLeg}
 use Rattle.leg.specs.Making.{leg_refusal}
 use Rattle.field.specs.Meaning.{Meaning, Laws, reach_bound}
 use Rattle.field.specs.Joining.{union_laws}
 use Rattle.leg_check.specs.declared.verdict.Verdict.{Verdict}
-use Rattle.leg_check.specs.Halving.{clears}
 use Rattle.leg_check.specs.Judging.{Judged}
-use Rattle.leg_check.specs.Promise.{Row, row_of, Free, Promise}
-use Rattle.leg_check.specs.Relation.{Relation}
+use Rattle.leg_check.specs.Promise.{Row, row_of}
 use Rattle.leg_check.specs.Outcome.{outcome_of}
 use Rattle.leg_check.proofs.Outcomes.{judged_outcome, refused_outcome, outcome_judged, outcome_refused}
-use Rattle.nodes.specs.declared.node.Node.{Node}
 use Rattle.nodes.specs.Meanings.{value_of}
-use Rattle.areas.specs.declared.area.Area.{Area}
-use Rattle.areas.specs.Fields.{least_value, largest_reach}
+use Rattle.areas.specs.Fields.{least_value}
 use Rattle.areas.specs.OverLaws.{over_laws, over_reach}
 use Rattle.areas.proofs.Least.{least_under}
 use Rattle.sheet.specs.declared.sheet.Sheet.{Sheet}
 use Rattle.sheet.specs.Calls.{SheetData}
 use Rattle.sheet.specs.Held.{data_of}
 use Rattle.sheet.specs.Standing.{Standing}
-use Rattle.sheet.specs.Answers.{Answer, taken, refused, checked, found, field_of, outcome}
+use Rattle.sheet.specs.Answers.{Answer, refused, checked, found, field_of, outcome}
 use Rattle.sheet.specs.Kept.{Joint, alone, first, second, whole_of, joint_reach, LawfulJoint, limited_answer, check_answer, Shown, Kept}
 use Rattle.sheet.proofs.Sent.{some_number}
 

@@ -1,5 +1,5 @@
 -- Every sheet is built by some list of calls.
-use Rattle.std.proofs.Common.{◌≡◌, ℕ, zero, suc, ◌+◌, ◌<◌, ◌≤◌, Bool, true, false, cond, ◌&&◌, ◌||◌, eqb, leb, List, [], ◌∷◌, ◌++◌, map, length, get_or, take, set, replicate, ℤ, pos, nat_abs, is_some, Some, None, fold, Option, sym, refl, ap, ◌∙◌, subst, ap₂, append_assoc, add-zero, add-suc, arith, length-append}
+use Rattle.std.proofs.Common.{◌≡◌, ℕ, suc, ◌+◌, ◌<◌, ◌≤◌, Bool, true, false, cond, List, [], ◌∷◌, ◌++◌, map, length, set, replicate, ℤ, pos, is_some, Some, None, fold, Option, sym, refl, ap, ◌∙◌, subst, ap₂, append_assoc, add-zero, add-suc, arith, length-append}
 use borrow.Author.Differences.{ints}
 use lib.Seq.{get_or-append_seam, set-append_seam, take-append_seam}
 use lib.Signed.{le_z, lt_z}
@@ -11,7 +11,7 @@ use Rattle.areas.specs.declared.area.Area.{Area}
 use Rattle.areas.specs.Table.{needed, AllStand, Accepted}
 use Rattle.sheet.specs.declared.call.Call.{Call}
 use Rattle.sheet.specs.declared.call.Call.TheVariants.{Add, Publish}
-use Rattle.sheet.specs.Calls.{SheetData, empty_sheet, names_area, is_on_or_off, is_on, published, call_refusal, changed, after, built}
+use Rattle.sheet.specs.Calls.{SheetData, empty_sheet, names_area, is_on_or_off, is_on, published, call_refusal, after, built}
 use Rattle.sheet.specs.Standing.{Standing}
 use Rattle.sheet.specs.Answers.{Answer}
 use Rattle.sheet.specs.Kept.{Joint, Kept}

@@ -1,5 +1,5 @@
 -- What a call answers and leaves, once it is known which refusal fits.
-use Rattle.std.proofs.Common.{◌≡◌, ℕ, ◌<◌, ◌≤◌, Bool, true, false, cond, eqb, leb, List, length, Option, sym, refl, ap, ◌∙◌, subst, ap₂, arith}
+use Rattle.std.proofs.Common.{◌≡◌, ℕ, ◌<◌, ◌≤◌, true, false, cond, eqb, leb, List, Option, sym, ap, ◌∙◌, arith}
 use Rattle.std.proofs.lemmas.Bool.{cond-true, cond-false, eq-eqb, ne_eqb}
 use Rattle.refusal.specs.declared.Refusal.{Refusal}
 use Rattle.refusal.specs.declared.Refusal.TheVariants.{TextStart, LineEnd, FieldCount, ColumnName, FieldValue, SheetFull, NodeKind, NodeReference, UnusedColumn, QuadricRange, NodeReach, NoNode, NodeInUse, AreaNumber, AreaPublished, AreaNotPublished, AreaNode, AreaSwitch, CoordinateRange, SamePoint, LatticeSize, HeightRange, LayerReach, HalfStepRange, PieceShape}
@@ -8,7 +8,7 @@ use Rattle.nodes.specs.declared.node.Node.{Node}
 use Rattle.areas.specs.declared.area.Area.{Area}
 use Rattle.sheet.specs.declared.call.Call.{Call}
 use Rattle.sheet.specs.Calls.{SheetData, call_refusal, changed, after}
-use Rattle.sheet.specs.Answers.{Answer, taken, refused, number_for, done}
+use Rattle.sheet.specs.Answers.{taken, refused, number_for, done}
 
 -- every refusal has a number from 1 on
 pub some_number : (refusal : Refusal) → 1 ≤ number_of refusal

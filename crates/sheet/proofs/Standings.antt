@@ -1,11 +1,10 @@
 -- Every call leaves a sheet that keeps to what sheets keep to.
-use Rattle.std.proofs.Common.{◌≡◌, ℕ, zero, suc, ◌+◌, ◌-◌, ◌<◌, ◌≤◌, min, Bool, true, false, cond, ◌&&◌, eqb, leb, ◌≢◌, List, [], ◌∷◌, ◌++◌, length, get_or, take, set, replicate, ℤ, pos, nat_abs, is_some, Some, None, fold, Option, sym, refl, ap, ◌∙◌, subst, ap₂, inl, inr, arith, length-append, length-set, length-take, get_or-set_other, get_or-take, get_or-set_same, take-take, below_more}
+use Rattle.std.proofs.Common.{◌≡◌, ℕ, zero, suc, ◌+◌, ◌-◌, ◌<◌, ◌≤◌, min, Bool, true, false, cond, eqb, leb, List, [], ◌∷◌, ◌++◌, length, get_or, take, set, replicate, ℤ, pos, nat_abs, Some, None, fold, Option, sym, refl, ◌∙◌, subst, ap₂, arith, length-append, length-set, length-take, get_or-take, take-take, below_more}
 use borrow.Author.Differences.{ints}
 use lib.Signed.{le_z, lt_z}
 use lib.ListN.{get_or-append}
 use lib.Seq.{get_or-append_seam, take-append-le, take-append_seam}
 use Rattle.std.proofs.lemmas.Bool.{cond_both, eqb-true, eqb-false, and_parts}
-use Rattle.leg.specs.Making.{is_between}
 use Rattle.nodes.specs.declared.node.Node.{Node}
 use Rattle.nodes.specs.Formed.{no_node}
 use Rattle.nodes.specs.Validation.{refers, node_refusal}
@@ -14,7 +13,7 @@ use Rattle.areas.specs.Table.{needed, AllStand, Accepted, used}
 use Rattle.areas.proofs.Tables.{not_used}
 use Rattle.sheet.specs.declared.call.Call.{Call}
 use Rattle.sheet.specs.declared.call.Call.TheVariants.{Add, TakeBack, Publish, Switch, Strike, Check}
-use Rattle.sheet.specs.Calls.{SheetData, empty_sheet, names_area, is_on_or_off, is_on, published, call_refusal, switched, changed, after, built}
+use Rattle.sheet.specs.Calls.{SheetData, empty_sheet, names_area, is_on, published, call_refusal, switched, changed, after, built}
 use Rattle.sheet.specs.Standing.{Standing}
 
 -- ---- nodes

@@ -1,5 +1,5 @@
 -- The worked calls, computed.
-use Rattle.std.proofs.Common.{◌≡◌, refl}
+use Rattle.std.proofs.Common.{refl}
 use Rattle.affine.specs.Forms.{product_of, lesser_of}
 use Rattle.leg_check.specs.Halving.{examine_of}
 use Rattle.nodes.specs.Quadrics.{quadric_value, quadric_reach, square_of, quadric_form}

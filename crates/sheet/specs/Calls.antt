@@ -1,5 +1,5 @@
 -- A sheet as plain data, which calls it refuses, and the sheet that a list of calls builds.
-use Rattle.std.specs.Prelude.{◌≡◌, ℕ, ◌-◌, ◌≤◌, Bool, cond, ◌||◌, List, [], ◌∷◌, ◌++◌, length, take, set, replicate, ℤ, pos, is_some, Some, None, fold, Option, ◌==◌, nat_le, slice_index_or, slice_set, unsigned_abs}
+use Rattle.std.specs.Prelude.{ℕ, ◌-◌, Bool, cond, ◌||◌, List, [], ◌∷◌, ◌++◌, length, take, replicate, ℤ, pos, is_some, Some, None, fold, Option, ◌==◌, nat_le, slice_index_or, slice_set, unsigned_abs}
 use Rattle.leg.specs.Making.{is_between, leg_refusal}
 use Rattle.nodes.specs.declared.node.Node.{Node}
 use Rattle.nodes.specs.Tables.{equals}

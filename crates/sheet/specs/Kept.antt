@@ -1,6 +1,6 @@
 -- What is promised of a leg that is checked against a sheet, alone or joined with a further field. All of it is said of the sheet as data: which nodes it has, and
 -- which areas are on.
-use Rattle.std.specs.Prelude.{◌≡◌, ℕ, true, cond, ℤ, pos, ◌≤ℤ◌, ◌<ℤ◌, Some, None, int_le, slice_index_or}
+use Rattle.std.specs.Prelude.{◌≡◌, ℕ, true, cond, ℤ, pos, ◌<ℤ◌, Some, None, int_le, slice_index_or}
 use Rattle.leg.specs.declared.shapes.Leg.{Leg}
 use Rattle.leg.specs.Making.{Joins}
 use Rattle.field.specs.Meaning.{Meaning, Laws, reach_bound}

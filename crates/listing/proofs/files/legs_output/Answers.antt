@@ -1,4 +1,4 @@
-use Rattle.std.proofs.Common.{◌≡◌, ℕ, List, ◌++◌, sym, ap, ◌∙◌}
+use Rattle.std.proofs.Common.{ℕ, List, ◌++◌, sym, ap, ◌∙◌}
 use Rattle.table.specs.declared.table.Table.TheVariants.{Legs}
 use Rattle.table.specs.Reading.{reading}
 use Rattle.sheet.specs.Held.{data_of}

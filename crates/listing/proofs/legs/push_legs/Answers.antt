@@ -3,7 +3,7 @@ use Rattle.refusal.specs.declared.Fault.{Fault}
 use Rattle.table.specs.declared.table.Table.{Table}
 use Rattle.table.specs.declared.table.Table.TheVariants.{Legs}
 use Rattle.table.specs.Names.{column_names}
-use Rattle.table.specs.Reading.{Reading, heads_of, left, reading}
+use Rattle.table.specs.Reading.{heads_of, left, reading}
 use Rattle.table.specs.Reading.{and_then as onward}
 use Rattle.table.proofs.Runs.{begun}
 use Rattle.sheet.specs.Held.{data_of}

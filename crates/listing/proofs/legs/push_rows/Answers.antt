@@ -1,4 +1,4 @@
-use Rattle.std.proofs.Common.{◌≡◌, ℕ, ◌+◌, ◌-◌, ◌≤◌, List, ◌++◌, length, drop, ℤ, Ok, vec_items, Option, sym, ap, ◌∙◌, subst, arith}
+use Rattle.std.proofs.Common.{ℕ, ◌-◌, List, ◌++◌, length, drop, ℤ, Ok, vec_items, Option, sym, ap, ◌∙◌, subst, arith}
 use Rattle.table.specs.Text.{first_line}
 use Rattle.table.specs.Reading.{Reading, after, Stands}
 use Rattle.sheet.specs.Held.{data_of}

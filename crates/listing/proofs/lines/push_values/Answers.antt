@@ -1,7 +1,6 @@
-use Rattle.std.proofs.Common.{ℕ, List, [], ◌++◌, map, get_or, pos, vec_items, sym, ap, ◌∙◌, arith}
+use Rattle.std.proofs.Common.{[], map, pos, vec_items, sym, ◌∙◌, arith}
 use Rattle.std.specs.Fmt.{signed_decimal}
 use Rattle.std.proofs.lemmas.List.{length-map, get_or-map}
-use Rattle.listing.specs.Lines.{lead}
 use Rattle.listing.proofs.Fields.{field_more, line_all}
 use Rattle.listing.proofs.lines.push_values.Goals as goal
 

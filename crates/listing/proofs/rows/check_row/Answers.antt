@@ -1,4 +1,4 @@
-use Rattle.std.proofs.Common.{◌≡◌, Option, sym, subst, w64, SFits, rules}
+use Rattle.std.proofs.Common.{Option, sym, subst, w64, SFits, rules}
 use Rattle.std.proofs.lemmas.Int.{to_z-of_z}
 use Rattle.terrain.specs.declared.grid.Lattice.{Lattice}
 use Rattle.sheet.specs.Answers.{found}

@@ -1,4 +1,4 @@
-use Rattle.std.proofs.Common.{◌≡◌, [], ◌∷◌, ap, ◌∙◌, w64, SFits, rules}
+use Rattle.std.proofs.Common.{[], ◌∷◌, ◌∙◌, w64, SFits, rules}
 use Rattle.std.proofs.lemmas.Int.{to_z-of_z}
 use Rattle.integer.proofs.Machine.{kept}
 use Rattle.listing.specs.Rows.{column}

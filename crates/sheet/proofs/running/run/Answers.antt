@@ -1,4 +1,4 @@
-use Rattle.std.proofs.Common.{◌≡◌, fold, ap, ◌∙◌, arith, take_all}
+use Rattle.std.proofs.Common.{fold, ap, ◌∙◌, arith, take_all}
 use Rattle.sheet.specs.Calls.{empty_sheet, after}
 use Rattle.sheet.specs.Answers.{answers_to}
 use Rattle.sheet.specs.Held.{data_of}

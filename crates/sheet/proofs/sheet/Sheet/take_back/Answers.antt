@@ -1,4 +1,4 @@
-use Rattle.std.proofs.Common.{◌≡◌, ℕ, ◌+◌, ◌-◌, ◌<◌, ◌≤◌, min, length, vec_items, sym, ap, ◌∙◌, subst, arith, length-take}
+use Rattle.std.proofs.Common.{◌≡◌, ◌+◌, ◌-◌, length, vec_items, sym, ap, ◌∙◌, subst, arith, length-take}
 use Rattle.areas.specs.Table.{AllStand, Accepted}
 use Rattle.areas.proofs.Tables.{not_used}
 use Rattle.sheet.proofs.Standings.{accepted_taken}
