@@ -49,8 +49,8 @@ over_ground sheet (Ok joint) legs = legs_by joint sheet (names_of legs) (reading
 over_ground sheet (Err f) legs = output_of_fault 3 f
 
 abbrev pub on_sheet : Result SheetData FileFault → Result Joint Fault → List ℕ → Output
-on_sheet (Ok sheet) ground legs = over_ground sheet ground legs
-on_sheet (Err f) ground legs = output_of_fault f.file f.fault
+on_sheet (Ok sheet) heights legs = over_ground sheet heights legs
+on_sheet (Err f) heights legs = output_of_fault f.file f.fault
 
 abbrev pub listing_of : (nodes areas terrain legs : List ℕ) → Output
 listing_of nodes areas terrain legs = on_sheet (loaded_of nodes areas) (ground_from terrain) legs

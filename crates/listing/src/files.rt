@@ -60,9 +60,9 @@ fn legs_output(
     ensures { Prints nodes.now areas.now terrain.now legs.now result }
 {
     let sheet = load(heap, nodes, areas)?;
-    let ground = ground_of(heap, terrain)?;
+    let lattice = ground_of(heap, terrain)?;
     let mut text = Vec::new(heap);
-    let stop = push_legs(heap, &mut text, &sheet, &ground, legs)?;
+    let stop = push_legs(heap, &mut text, &sheet, &lattice, legs)?;
     push_end(heap, &mut text, stop)?;
     Ok(Output {
         text,

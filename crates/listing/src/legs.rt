@@ -20,12 +20,12 @@ fn push_rows(
     heap: Global,
     out: &mut Vec<u8>,
     sheet: &Sheet,
-    ground: &Option<Lattice>,
+    lattice: &Option<Lattice>,
     rows: &mut Rows,
 ) -> Result<Option<Fault>, AllocError>
     requires small { length rows.old.text.now ≤ 65536 }
     requires begun { 1 ≤ rows.old.line }
-    ensures { IfOk result (λ o. (o ≡ (left rows.old.table rows.old.order.packed rows.old.text.now rows.old.at rows.old.line).stop) × (out.new.items ≡ out.old.items ++ rows_text (joint_of ground.now) (data_of sheet.now) (rows.old.line - 1) (left rows.old.table rows.old.order.packed rows.old.text.now rows.old.at rows.old.line).rows)) }
+    ensures { IfOk result (λ o. (o ≡ (left rows.old.table rows.old.order.packed rows.old.text.now rows.old.at rows.old.line).stop) × (out.new.items ≡ out.old.items ++ rows_text (joint_of lattice.now) (data_of sheet.now) (rows.old.line - 1) (left rows.old.table rows.old.order.packed rows.old.text.now rows.old.at rows.old.line).rows)) }
 {
     loop {
         let standing = match rows.next() {
@@ -37,7 +37,7 @@ fn push_rows(
             None => return Ok(None),
         };
         let number = rows.lines_read() - 2;
-        push_row(heap, out, sheet, ground, number, &row)?;
+        push_row(heap, out, sheet, lattice, number, &row)?;
     }
 }
 
@@ -53,10 +53,10 @@ pub(crate) fn push_legs(
     heap: Global,
     out: &mut Vec<u8>,
     sheet: &Sheet,
-    ground: &Option<Lattice>,
+    lattice: &Option<Lattice>,
     legs: &[u8],
 ) -> Result<Option<Fault>, AllocError>
-    ensures { IfOk result (λ o. (out.new.items ++ ending o ≡ out.old.items ++ (legs_by (joint_of ground.now) (data_of sheet.now) (names_of legs.now) (reading Legs legs.now)).text) × (is_some o ≡ (legs_by (joint_of ground.now) (data_of sheet.now) (names_of legs.now) (reading Legs legs.now)).faulty)) }
+    ensures { IfOk result (λ o. (out.new.items ++ ending o ≡ out.old.items ++ (legs_by (joint_of lattice.now) (data_of sheet.now) (names_of legs.now) (reading Legs legs.now)).text) × (is_some o ≡ (legs_by (joint_of lattice.now) (data_of sheet.now) (names_of legs.now) (reading Legs legs.now)).faulty)) }
 {
     let opened = match Opened::new(Table::Legs, legs) {
         Ok(opened) => opened,
@@ -68,6 +68,6 @@ pub(crate) fn push_legs(
     };
     push_heading(out)?;
     let mut rows = opened.rows(names);
-    let fault = push_rows(heap, out, sheet, ground, &mut rows)?;
+    let fault = push_rows(heap, out, sheet, lattice, &mut rows)?;
     Ok(fault)
 }

@@ -56,10 +56,10 @@ fn numbers_for(number: usize, row: &[i64; 13], res: Result<Verdict, Refusal>) ->
 }
 
 // The check of a row of the legs table, with the terrain as the first part of a union if there is one.
-fn check_row(sheet: &Sheet, ground: &Option<Lattice>, row: &[i64; 13]) -> Result<Verdict, Refusal>
-    ensures { Kept (joint_of ground.now) (data_of sheet.now) (column row.now 0) (column row.now 1) (column row.now 2) (column row.now 3) (column row.now 4) (column row.now 5) (found result) }
+fn check_row(sheet: &Sheet, lattice: &Option<Lattice>, row: &[i64; 13]) -> Result<Verdict, Refusal>
+    ensures { Kept (joint_of lattice.now) (data_of sheet.now) (column row.now 0) (column row.now 1) (column row.now 2) (column row.now 3) (column row.now 4) (column row.now 5) (found result) }
 {
-    match ground {
+    match lattice {
         Some(lattice) => sheet.check_with_first(
             lattice, row[0], row[1], row[2], row[3], row[4], row[5],
         ),
@@ -72,14 +72,14 @@ pub(crate) fn push_row(
     heap: Global,
     out: &mut Vec<u8>,
     sheet: &Sheet,
-    ground: &Option<Lattice>,
+    lattice: &Option<Lattice>,
     number: usize,
     row: &[i64; 13],
 ) -> Result<(), AllocError>
     requires { number < 65536 }
-    ensures { OnOk result (out.new.items ≡ out.old.items ++ row_text (joint_of ground.now) (data_of sheet.now) number row.now) }
+    ensures { OnOk result (out.new.items ≡ out.old.items ++ row_text (joint_of lattice.now) (data_of sheet.now) number row.now) }
 {
-    let result = check_row(sheet, ground, row);
+    let result = check_row(sheet, lattice, row);
     let numbers = numbers_for(number, row, result);
     push_values(heap, out, &numbers)
 }

@@ -10,8 +10,8 @@ use Rattle.listing.proofs.files.legs_output.Goals as goal
 pub returns : goal.returns
 returns c =
     let sheet = c.in_ok-sheet.sheet in
-    let ground = c.in_ok-ground.ground in
-    let is = listing_is c.args.nodes.now c.args.areas.now c.args.terrain.now c.args.legs.now (data_of sheet) (joint_of ground) c.in_ok-sheet.ensures.exact c.in_ok-ground.ensures in
+    let ground = c.in_ok-lattice.lattice in
+    let is = listing_is c.args.nodes.now c.args.areas.now c.args.terrain.now c.args.legs.now (data_of sheet) (joint_of ground) c.in_ok-sheet.ensures.exact c.in_ok-lattice.ensures in
     let said = c.in_ok-stop.ensures in
     let rest = (legs_by (joint_of ground) (data_of sheet) (names_of c.args.legs.now) (reading Legs c.args.legs.now)).text in
     record {

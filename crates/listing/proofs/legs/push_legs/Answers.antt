@@ -25,5 +25,5 @@ returns c =
     ap (λ (r : Result (List ℕ) Fault). onward r (heads_of (column_names Legs))) o.0
     ∙ ap (λ (t : Table). heads_of (column_names t) text) (sym o.2) ∙ ap (heads_of (column_names c.in-Ok.opened.table)) (sym o.1) ∙ n.2.1 in
     let said = c.in_ok-fault.ensures in
-    legs_whole (joint_of c.args.ground.now) (data_of c.args.sheet.now) heads (names_of text) (reading Legs text) rest
+    legs_whole (joint_of c.args.lattice.now) (data_of c.args.sheet.now) heads (names_of text) (reading Legs text) rest
     (vec_items c.args.out.now) _ _ rows.line c.in_ok-fault.fault accepted whole c.in_ok-push_heading.ensures c.rows-rows.ensures.line said.1 said.0

@@ -13,8 +13,8 @@ left_of rows = left rows.table rows.order.packed rows.text.now rows.at rows.line
 abbrev pub invariant-loop-standing : goal.invariant-loop-standing
 invariant-loop-standing l =
     ((left_of l.rows).stop ≡ (left_of l.initial.rows).stop)
-    × (vec_items l.out ++ rows_text (joint_of l.ground) (data_of l.sheet) (l.rows.line - 1) (left_of l.rows).rows
-    ≡ vec_items l.initial.out ++ rows_text (joint_of l.ground) (data_of l.sheet) (l.initial.rows.line - 1) (left_of l.initial.rows).rows)
+    × (vec_items l.out ++ rows_text (joint_of l.lattice) (data_of l.sheet) (l.rows.line - 1) (left_of l.rows).rows
+    ≡ vec_items l.initial.out ++ rows_text (joint_of l.lattice) (data_of l.sheet) (l.initial.rows.line - 1) (left_of l.initial.rows).rows)
     × (1 ≤ l.rows.line)
     × (length l.rows.text.now ≤ 65536)
 

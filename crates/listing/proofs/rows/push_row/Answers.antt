@@ -6,4 +6,4 @@ use Rattle.listing.proofs.rows.push_row.Goals as goal
 
 pub numbers_for-numbers-requires : goal.numbers_for-numbers-requires
 numbers_for-numbers-requires c =
-    record { few = c.requires; ready = printable_of (joint_of c.args.ground.now) (data_of c.args.sheet.now) c.args.row.now (found c.check_row-result.result) c.check_row-result.ensures }
+    record { few = c.requires; ready = printable_of (joint_of c.args.lattice.now) (data_of c.args.sheet.now) c.args.row.now (found c.check_row-result.result) c.check_row-result.ensures }
