@@ -1,12 +1,13 @@
 -- Two lawful fields joined are a lawful field, if the reach is within the limit. Shown once for the union and the common part.
 use Rattle.std.specs.Prelude.{◌≡◌, ℕ, ℤ, pos, ◌+ℤ◌, ◌-ℤ◌, ◌*ℤ◌, ◌≤ℤ◌, refl}
-use Rattle.std.proofs.Common.{sym, ap, ap₂, ◌∙◌, arith}
+use Rattle.std.proofs.Common.{sym, ap, ap₂, ◌∙◌}
 use Rattle.std.specs.Int.{int_min, int_max}
-use Rattle.std.proofs.lemmas.Int.{clamps, by_lt_z, ints}
+use Rattle.std.proofs.lemmas.Int.{by_lt_z}
 use Rattle.integer.specs.Numbers.{Within}
 use Rattle.integer.proofs.Ring.{ring, ◌:+◌, ◌:*◌, con, ◌:=◌}
 use Rattle.integer.proofs.Order.{natural≥0, product≥0, weaker, times_right≤}
-use Rattle.integer.proofs.Absolute.{under, over, within_from, within_same, within_wider}
+use Rattle.integer.proofs.Absolute.{within_same, within_wider}
+use Rattle.integer.proofs.Bounding.{at_most, at_most_more, near_above, larger_scaled, larger≥0, lesser_near, greater_near}
 use Rattle.integer.proofs.Extremes.{min_is_first, min_is_second, min_has, max_is_first, max_is_second, max_has, max_first, max_second}
 use Rattle.leg.specs.declared.shapes.Leg.{Leg}
 use Rattle.leg.specs.Ranges.{IsPiece}
@@ -32,31 +33,20 @@ record Picks (pick : ℤ → ℤ → ℤ) (join : Form → Form → Form) : Type
 
 -- a bound by either of two numbers is one by the larger and more
 by_first : (a b e k : ℤ) → pos 0 ≤ℤ e → pos 0 ≤ℤ k → (a *ℤ k) ≤ℤ ((int_max a b +ℤ e) *ℤ k)
-by_first a b e k h some = times_right≤ some (more (max_first a b))
-  where
-    more : a ≤ℤ int_max a b → a ≤ℤ (int_max a b +ℤ e)
-    more l = omega (arith, ints)
+by_first a b e k h some = times_right≤ some (at_most_more h (max_first a b))
 
 by_second : (a b e k : ℤ) → pos 0 ≤ℤ e → pos 0 ≤ℤ k → (b *ℤ k) ≤ℤ ((int_max a b +ℤ e) *ℤ k)
-by_second a b e k h some = times_right≤ some (more (max_second a b))
-  where
-    more : b ≤ℤ int_max a b → b ≤ℤ (int_max a b +ℤ e)
-    more l = omega (arith, ints)
+by_second a b e k h some = times_right≤ some (at_most_more h (max_second a b))
 
 -- the larger steepness, and 1 more for the rounding of the joined form's centre
 one_more : (L r : ℤ) → (L +ℤ pos 0) *ℤ r +ℤ r ≡ (L +ℤ pos 1) *ℤ r
 one_more = ring 2 (λ L r. (L :+ con (pos 0)) :* r :+ r := (L :+ con (pos 1)) :* r) refl
 
 near_high : (V H P s r : ℤ) → pos 1 ≤ℤ r → V ≤ℤ H → H ≤ℤ (P +ℤ pos 1) → Within (P -ℤ V) s → Within (H -ℤ V) (s +ℤ r)
-near_high V H P s r wide above below w =
-    let a = under w in let b = over w in
-    within_from (H -ℤ V) (s +ℤ r) (omega (arith, ints)) (omega (arith, ints))
+near_high V H P s r wide above below w = near_above V H P s r wide above below w
 
 steepness_fits : (a b R S : ℤ) → (pos 2048 *ℤ a) ≤ℤ R → (pos 2048 *ℤ b) ≤ℤ S → (pos 2048 *ℤ (int_max a b +ℤ pos 1)) ≤ℤ (int_max R S +ℤ pos 2048)
-steepness_fits a b R S h k = omega (arith, ints, clamps)
-
-larger≥0 : (a b : ℤ) → pos 0 ≤ℤ a → pos 0 ≤ℤ (int_max a b +ℤ pos 1)
-larger≥0 a b h = omega (arith, ints, clamps)
+steepness_fits a b R S h k = larger_scaled a b R S h k
 
 square≥0 : {q : ℤ} → pos 1 ≤ℤ q → pos 0 ≤ℤ (q *ℤ q)
 square≥0 h = product≥0 (weaker h) (weaker h)
@@ -65,13 +55,13 @@ square≥0 h = product≥0 (weaker h) (weaker h)
 min_scaled : (a b k : ℤ) → pos 0 ≤ℤ k → int_min a b *ℤ k ≡ int_min (a *ℤ k) (b *ℤ k)
 min_scaled a b k some =
     by_lt_z {P = int_min a b *ℤ k ≡ int_min (a *ℤ k) (b *ℤ k)} a b
-    (λ h. let order : a ≤ℤ b = omega (arith, ints) in ap (λ (x : ℤ). x *ℤ k) (min_is_first order) ∙ sym (min_is_first (times_right≤ some order)))
+    (λ h. let order = at_most h in ap (λ (x : ℤ). x *ℤ k) (min_is_first order) ∙ sym (min_is_first (times_right≤ some order)))
     (λ order. ap (λ (x : ℤ). x *ℤ k) (min_is_second order) ∙ sym (min_is_second (times_right≤ some order)))
 
 max_scaled : (a b k : ℤ) → pos 0 ≤ℤ k → int_max a b *ℤ k ≡ int_max (a *ℤ k) (b *ℤ k)
 max_scaled a b k some =
     by_lt_z {P = int_max a b *ℤ k ≡ int_max (a *ℤ k) (b *ℤ k)} a b
-    (λ h. let order : a ≤ℤ b = omega (arith, ints) in ap (λ (x : ℤ). x *ℤ k) (max_is_second order) ∙ sym (max_is_second (times_right≤ some order)))
+    (λ h. let order = at_most h in ap (λ (x : ℤ). x *ℤ k) (max_is_second order) ∙ sym (max_is_second (times_right≤ some order)))
     (λ order. ap (λ (x : ℤ). x *ℤ k) (max_is_first order) ∙ sym (max_is_first (times_right≤ some order)))
 
 module _ (pick : ℤ → ℤ → ℤ) (join : Form → Form → Form) (c : Picks pick join) (f g : Meaning) (F : Laws f) (G : Laws g) where
@@ -137,7 +127,7 @@ lesser_picks : Picks int_min lesser_of
 lesser_picks = record {
   within = λ a b s v w. min_has a b (λ (x : ℤ). Within x s) v w;
   scaled = min_scaled;
-  near = λ a b c d s v w. let i = under v in let j = over v in let k = under w in let l = over w in within_from (int_min a b -ℤ int_min c d) s (omega (arith, ints, clamps)) (omega (arith, ints, clamps));
+  near = lesser_near;
   low = λ u v h k. (lesser_ends u v h k).low;
   high = λ u v h k. (lesser_ends u v h k).high;
   holds = λ m r p q on u v n k d h l. holds_lesser m r p q on u v n k d h l;
@@ -147,7 +137,7 @@ greater_picks : Picks int_max greater_of
 greater_picks = record {
   within = λ a b s v w. max_has a b (λ (x : ℤ). Within x s) v w;
   scaled = max_scaled;
-  near = λ a b c d s v w. let i = under v in let j = over v in let k = under w in let l = over w in within_from (int_max a b -ℤ int_max c d) s (omega (arith, ints, clamps)) (omega (arith, ints, clamps));
+  near = greater_near;
   low = λ u v h k. (greater_ends u v h k).low;
   high = λ u v h k. (greater_ends u v h k).high;
   holds = λ m r p q on u v n k d h l. holds_greater m r p q on u v n k d h l;

@@ -1,11 +1,10 @@
 -- A field with one value everywhere.
 use Rattle.std.specs.Prelude.{ℤ, pos, ◌-ℤ◌, ◌*ℤ◌, ◌≤ℤ◌, refl}
-use Rattle.std.proofs.Common.{arith}
-use Rattle.std.proofs.lemmas.Int.{ints}
-use Rattle.integer.specs.Numbers.{Within, absℤ}
+use Rattle.integer.specs.Numbers.{absℤ}
 use Rattle.integer.proofs.Ring.{ring, ◌:+◌, ◌:-◌, ◌:*◌, con, ◌:=◌}
 use Rattle.integer.proofs.Order.{weaker, product≥1, product≥0}
-use Rattle.integer.proofs.Absolute.{abs≥0, within_abs, within_same, within_self, within_product, within_from}
+use Rattle.integer.proofs.Absolute.{abs≥0, within_abs, within_same, within_self, within_product}
+use Rattle.integer.proofs.Bounding.{zero_within}
 use Rattle.field.specs.Meaning.{Meaning, Laws, reach_bound}
 
 abbrev pub level_meaning : ℤ → Meaning
@@ -15,9 +14,6 @@ level_meaning c = record {
   bound = λ leg m r. record { u0 = c; u1 = pos 0; u2 = pos 0 };
   reach = absℤ c;
 }
-
-zero_within : {k : ℤ} → pos 0 ≤ℤ k → Within (pos 0) k
-zero_within {k} h = within_from (pos 0) k (omega (arith, ints)) (omega (arith, ints))
 
 pub level_laws : (c : ℤ) → absℤ c ≤ℤ reach_bound → Laws (level_meaning c)
 level_laws c small = record {

@@ -1,10 +1,9 @@
 -- A field with the straight border x = a: how far the leg is east of it, in scaled tenths of a mile.
 use Rattle.std.specs.Prelude.{◌≡◌, ℕ, ℤ, pos, ◌+ℤ◌, ◌-ℤ◌, ◌*ℤ◌, neg_ℤ, ◌≤ℤ◌, refl}
-use Rattle.std.proofs.Common.{sym, ap, ◌∙◌, arith}
-use Rattle.std.proofs.lemmas.Int.{ints}
+use Rattle.std.proofs.Common.{sym, ap, ◌∙◌}
 use Rattle.integer.specs.Numbers.{Within, absℤ}
 use Rattle.integer.proofs.Ring.{ring, ◌:+◌, ◌:-◌, ◌:*◌, con, neg, ◌:=◌}
-use Rattle.integer.proofs.Order.{natural≥0, gap, weaker, product≥1, product≥0}
+use Rattle.integer.proofs.Order.{≤ℤ_trans, natural≥0, gap, weaker, product≥1, product≥0, times≤}
 use Rattle.integer.proofs.Absolute.{abs≥0, abs_product, abs_least, within_same, within_self, within_neg, within_sum, within_product, within_natural}
 use Rattle.field.specs.Meaning.{Meaning, Laws}
 
@@ -37,10 +36,7 @@ side_reach a x1 x2 p q wa w1 w2 parts from to =
     (ring 2 (λ p q. (con (pos 4096) :* (con (pos 4096) :* q :- p) :+ con (pos 4096) :* p :+ con (pos 4096) :* (con (pos 4096) :* q)) :* q := con (pos 33554432) :* (q :* q)) refl p q)
 
 difference : (x1 x2 : ℤ) → Within x1 (pos 4096) → Within x2 (pos 4096) → (pos 2048 *ℤ absℤ (x2 -ℤ x1)) ≤ℤ pos 33554432
-difference x1 x2 w1 w2 = plain (absℤ (x2 -ℤ x1)) (abs_least (within_sum w2 (within_neg w1)))
-  where
-    plain : (d : ℤ) → d ≤ℤ (pos 4096 +ℤ pos 4096) → (pos 2048 *ℤ d) ≤ℤ pos 33554432
-    plain d h = omega (arith, ints)
+difference x1 x2 w1 w2 = ≤ℤ_trans (times≤ (natural≥0 2048) (abs_least (within_sum w2 (within_neg w1)))) (record { le = tt })
 
 -- the ends lie |d| r from the value at the middle
 side_low : (v d : ℤ) (r : ℕ) → Within (v -ℤ absℤ (d *ℤ pos r) -ℤ pos 0 -ℤ v *ℤ pos 1) (absℤ d *ℤ pos r)

@@ -5,3 +5,4 @@ pub mod Absolute
 pub mod Division
 pub mod Extremes
 pub mod Machine
+pub mod Bounding

@@ -20,7 +20,7 @@ fits_is e f = subst (λ (y : ℤ). SFits w64 y) (sym e) f
 pub stored_is : {x z : ℤ} → x ≡ z → SFits w64 z → stored x ≡ z
 stored_is {x} e f = to_z-of_z w64 x (fits_is e f) ∙ e
 
--- a callee's answer fits, whatever it is: `kept c.f.ok`
+-- a callee's answer fits, whatever it is: `kept c.f.type_inv`
 pub kept : {z : ℤ} → mag z < 9223372036854775808 → stored z ≡ z
 kept {z} h = to_z-of_z w64 z (record { sfits = h })
 

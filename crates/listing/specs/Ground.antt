@@ -18,10 +18,10 @@ ground_from bytes =
 -- what the code joins
 abbrev pub joint_of : Option Lattice → Joint
 joint_of None = alone
-joint_of (Some Lattice) = first (terrain_of (heights_of (vec_items Lattice.heights)))
+joint_of (Some lattice) = first (terrain_of (heights_of (vec_items lattice.heights)))
 
 -- the lattice or the fault is the one that the bytes hold; want of memory says nothing
 abbrev pub Grounds : List ℕ → Result (Option Lattice) LoadError → Type 0
-Grounds bytes (Ok Lattice) = ground_from bytes ≡ Ok (joint_of Lattice)
+Grounds bytes (Ok lattice) = ground_from bytes ≡ Ok (joint_of lattice)
 Grounds bytes (Err (errors.Fault file f)) = (ground_from bytes ≡ Err f) × (file ≡ 3)
 Grounds bytes (Err errors.NoMemory) = Unit {0}
