@@ -1,11 +1,9 @@
 -- The two kinds of fields that are joined: the constant 2^60, and the field of one node.
 use Rattle.std.specs.Prelude.{ℕ, ◌<◌, List, length, ℤ, pos, ◌-ℤ◌, ◌*ℤ◌, ◌≤ℤ◌, refl}
-use Rattle.std.proofs.Common.{arith}
-use Rattle.std.proofs.lemmas.Int.{ints}
 use Rattle.integer.specs.Numbers.{Within}
 use Rattle.integer.proofs.Ring.{ring, ◌:-◌, ◌:*◌, con, ◌:=◌}
-use Rattle.integer.proofs.Order.{natural≥0, weaker, product≥1, product≥0}
-use Rattle.integer.proofs.Absolute.{within_same, within_self, within_product}
+use Rattle.integer.proofs.Order.{≤ℤ_trans, natural≥0, weaker, product≥1, product≥0}
+use Rattle.integer.proofs.Absolute.{within_same, within_self, within_wider, within_product}
 use Rattle.leg.specs.declared.shapes.Leg.{Leg}
 use Rattle.field.specs.Meaning.{Meaning, Laws, reach_bound}
 use Rattle.nodes.specs.declared.node.Node.{Node}
@@ -25,7 +23,7 @@ start_field = record {
 }
 
 none_within : (k : ℤ) → pos 0 ≤ℤ k → Within (pos 0) k
-none_within k h = record { above = omega (arith, ints); below = h }
+none_within k h = within_wider (within_self (natural≥0 0)) h
 
 pub start_laws : Laws start_field
 start_laws = record {
@@ -55,7 +53,7 @@ node_field nodes i = record {
 
 module _ (nodes : List Node) (formed : WellFormed nodes) (i : ℕ) (i< : i < length nodes) where
   node_reach : reach_of nodes i ≤ℤ reach_bound
-  node_reach = let h = formed.reached i i< in omega (arith, ints)
+  node_reach = ≤ℤ_trans (formed.reached i i<) (record { le = tt })
 
   pub node_laws : Laws (node_field nodes i)
   node_laws =
