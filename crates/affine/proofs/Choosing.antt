@@ -114,15 +114,10 @@ module _ (m r p q : ℤ) (at : OnPiece m r p q) (u v : Form) (n k d : ℤ) (h : 
 
 -- ---- their ends: the low end is exact, and the rounding of the centre costs the high end at most 1
 
-pub record LesserEnds (u v w : Form) : Type 0 where
+pub record EndsOf (pick : ℤ → ℤ → ℤ) (u v w : Form) : Type 0 where
   pub kept : pos 0 ≤ℤ w.u2
-  pub low : low_end w ≡ int_min (low_end u) (low_end v)
-  pub high : high_end w ≤ℤ (int_min (high_end u) (high_end v) +ℤ pos 1)
-
-pub record GreaterEnds (u v w : Form) : Type 0 where
-  pub kept : pos 0 ≤ℤ w.u2
-  pub low : low_end w ≡ int_max (low_end u) (low_end v)
-  pub high : high_end w ≤ℤ (int_max (high_end u) (high_end v) +ℤ pos 1)
+  pub low : low_end w ≡ pick (low_end u) (low_end v)
+  pub high : high_end w ≤ℤ (pick (high_end u) (high_end v) +ℤ pos 1)
 
 -- the ends of two forms of which the first ends before the second begins: a ≤ b ≤ c ≤ d
 record Apart (a b c d : ℤ) : Type 0 where
@@ -160,21 +155,21 @@ module _ (u v : Form) (u2≥0 : pos 0 ≤ℤ u.u2) (v2≥0 : pos 0 ≤ℤ v.u2) 
   v_ordered : low_end v ≤ℤ high_end v
   v_ordered = low≤high v v2≥0
 
-  pub lesser_ends : LesserEnds u v (lesser_of u v)
+  pub lesser_ends : EndsOf int_min u v (lesser_of u v)
   unfolding lesser_of
   lesser_ends =
-      by_test (le_z (high_end u) (low_end v)) (LesserEnds u v)
+      by_test (le_z (high_end u) (low_end v)) (EndsOf int_min u v)
       (λ t. let ends = apart u_ordered (le_z_yes t) v_ordered in record { kept = u2≥0; low = ends.lesser_low; high = ends.lesser_high })
-      (λ _. by_test (le_z (high_end v) (low_end u)) (LesserEnds u v)
+      (λ _. by_test (le_z (high_end v) (low_end u)) (EndsOf int_min u v)
       (λ t. let ends = apart v_ordered (le_z_yes t) u_ordered in record { kept = v2≥0; low = ends.lesser_low_turned; high = ends.lesser_high_turned })
       (λ _. record { kept = span_kept _ _ (min_ordered u_ordered v_ordered); low = span_low _ _; high = span_high (int_min (low_end u) (low_end v)) _ }))
 
-  pub greater_ends : GreaterEnds u v (greater_of u v)
+  pub greater_ends : EndsOf int_max u v (greater_of u v)
   unfolding greater_of
   greater_ends =
-      by_test (le_z (high_end v) (low_end u)) (GreaterEnds u v)
+      by_test (le_z (high_end v) (low_end u)) (EndsOf int_max u v)
       (λ t. let ends = apart v_ordered (le_z_yes t) u_ordered in record { kept = u2≥0; low = ends.greater_low_turned; high = ends.greater_high_turned })
-      (λ _. by_test (le_z (high_end u) (low_end v)) (GreaterEnds u v)
+      (λ _. by_test (le_z (high_end u) (low_end v)) (EndsOf int_max u v)
       (λ t. let ends = apart u_ordered (le_z_yes t) v_ordered in record { kept = v2≥0; low = ends.greater_low; high = ends.greater_high })
       (λ _. record { kept = span_kept _ _ (max_ordered u_ordered v_ordered); low = span_low _ _; high = span_high (int_max (low_end u) (low_end v)) _ }))
 

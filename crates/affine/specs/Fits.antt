@@ -1,5 +1,5 @@
 -- When an operation on forms can be done in 64 bits: the exact result's numbers, and those on the way, fit.
-use Rattle.std.specs.Prelude.{ℕ, ℤ, pos, ◌+ℤ◌, ◌-ℤ◌, ◌*ℤ◌, neg_ℤ, ◌≤ℤ◌, FitsSigned}
+use Rattle.std.specs.Prelude.{ℕ, ◌+◌, ◌^◌, ℤ, pos, ◌+ℤ◌, ◌-ℤ◌, ◌*ℤ◌, neg_ℤ, ◌≤ℤ◌, FitsSigned}
 use Rattle.std.specs.Int.{int_min, int_max, w64}
 use Rattle.integer.specs.Numbers.{absℤ, Within}
 use Rattle.affine.specs.declared.Form.{Form}
@@ -88,6 +88,10 @@ pub record EndsWithin (k : ℕ) (u : Form) : Type 0 where
   pub spread : pos 0 ≤ℤ u.u2
   pub low : Within (low_end u) (pos k)
   pub high : Within (high_end u) (pos k)
+
+-- the limit of `ends_limit`
+abbrev pub end_limit : ℕ
+end_limit = 2 ^ 61 + 2 ^ 21
 
 -- forms whose ends are within k can be added, turned, measured and compared
 pub record Suffices (k : ℕ) : Type 0 where

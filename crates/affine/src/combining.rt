@@ -45,8 +45,7 @@ impl Form {
     {
         Form {
             u0: self.u0 + k,
-            u1: self.u1,
-            u2: self.u2,
+            ..self
         }
     }
 
@@ -60,7 +59,7 @@ impl Form {
         Form {
             u0: -self.u0,
             u1: -self.u1,
-            u2: self.u2,
+            ..self
         }
     }
 

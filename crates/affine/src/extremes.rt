@@ -10,7 +10,7 @@ ghost use Rattle.affine.specs.Fits.{LowFits, HighFits, SpanFits, LesserFits, Gre
 use crate::Form;
 
 impl Form {
-    // The low end over the whole piece.
+    // The low end over the whole piece. `high` is its mirror, and one text for both would only hide a sign.
     pub fn low(self) -> i64
         requires { LowFits self }
         ensures value { result ≡ low_end self }
@@ -36,11 +36,11 @@ impl Form {
         self.high() <= v.low()
     }
 
-    // z / 2, rounded up.
+    // z / 2, rounded up: z without its half rounded down.
     fn half_up(z: i64) -> i64
         ensures { RoundedUp z (pos 2) result }
     {
-        if z > 0 { z / 2 + z % 2 } else { z / 2 }
+        z - z.div_euclid(2)
     }
 
     // All numbers from lo to hi.
@@ -74,7 +74,7 @@ impl Form {
         }
     }
 
-    // The form of the greater of two values.
+    // The form of the greater of two values. It is not `lesser` turned round, since both round the centre up.
     pub fn greater(self, v: Form) -> Form
         requires { GreaterFits self v }
         ensures value { result ≡ greater_of self v }

@@ -1,5 +1,6 @@
 -- What the nodes and the areas of a sheet keep to.
-use Rattle.std.specs.Prelude.{◌≡◌, ℕ, ◌+◌, ◌<◌, ◌≤◌, Bool, false, ◌||◌, List, [], ◌∷◌, length, take, Some, None, Option, ◌==◌, slice_index_or}
+use Rattle.std.specs.Prelude.{◌≡◌, ℕ, ◌+◌, ◌<◌, ◌≤◌, Bool, false, List, length, take, Some, None, Option, ◌==◌, slice_index_or}
+use Rattle.std.specs.List.{list_any}
 use Rattle.nodes.specs.declared.node.Node.{Node}
 use Rattle.nodes.specs.Formed.{no_node}
 use Rattle.nodes.specs.Validation.{node_refusal}
@@ -25,5 +26,4 @@ has node (Some a) = a.node == node
 
 -- an area, on or off, has this node
 abbrev pub used : ℕ → List (Option Area) → Bool
-used node [] = false
-used node (slot ∷ slots) = has node slot || used node slots
+used node slots = list_any (has node) slots

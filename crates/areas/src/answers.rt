@@ -8,7 +8,7 @@ ghost use Rattle.nodes.specs.Meanings.{zero_form};
 use crate::joining::Joining;
 use affine::Form;
 
-// The values at a half-step, each as the first number of a form: the lesser is joined.
+// The values at a half-step, each as the first number of a form: the lesser is joined. Here and below, a rule: a check asks for no memory, so these are arrays.
 #[derive(Drop)]
 pub(crate) struct Values {
     pub(crate) all: [Form; 64],
@@ -49,7 +49,7 @@ impl Joining for Extents {
     }
 }
 
-// The forms on a piece: the form of the lesser value.
+// The forms on a piece: the form of the lesser value. It holds what `Values` holds and joins it in another way, so one type for both would have to say which.
 #[derive(Drop)]
 pub(crate) struct Forms {
     pub(crate) all: [Form; 64],

@@ -37,8 +37,7 @@ impl Areas {
         ensures after { self.new.slots ≡ slice_set self.old.slots number slot }
         ensures others { (k : ℕ) → (k ≢ number) → slice_index_or self.new.slots k None ≡ slice_index_or self.old.slots k None }
     {
-        let slots = &mut self.slots;
-        slots[number] = slot;
+        self.slots[number] = slot;
     }
 
     // Whether an area, on or off, has this node.
@@ -52,12 +51,7 @@ impl Areas {
 fn any_has(slots: &[Option<Area>], node: usize) -> bool
     ensures { result ≡ used node slots.now }
 {
-    for slot in slots {
-        if let Some(area) = slot {
-            if area.node == node {
-                return true;
-            }
-        }
-    }
-    false
+    slots
+        .iter()
+        .any(|slot| matches!(slot, Some(area) if area.node == node))
 }

@@ -28,18 +28,12 @@ fn with_slot<J: Joining>(joining: &J, so_far: J::Answer, slot: &Option<Area>) ->
     ensures { result ≡ joined (J.join joining.now) (J.given joining.now) so_far slot.now }
 {
     match slot {
-        Some(area) => {
-            if area.on {
-                joining.with(so_far, area.node)
-            } else {
-                so_far
-            }
-        }
-        None => so_far,
+        Some(area) if area.on => joining.with(so_far, area.node),
+        _ => so_far,
     }
 }
 
-// All slots, in their order.
+// All slots, in their order. A rule here: a loop over the table with its numbers folds the areas.
 pub(crate) fn unite<J: Joining>(joining: &J, start: J::Answer, slots: &[Option<Area>]) -> J::Answer
     requires { AllCanJoin (J.can joining.now) (J.join joining.now) (J.given joining.now) start slots.now }
     ensures { result ≡ united (J.join joining.now) (J.given joining.now) start slots.now }

@@ -8,26 +8,25 @@ use crate::view::View;
 use affine::Form;
 use field::Field;
 use leg::{HalfStep, Leg, Piece};
-use nodes::{forms_on, reaches, steepnesses, values_at};
 
 // Every view is lawful, by what it keeps to.
 impl<'a> Field for View<'a> {
-    ghost meaning = { λ v. field_over v.nodes.now v.areas.now.slots };
+    ghost meaning = { λ v. field_over v.nodes.all.now v.areas.now.slots };
 
     ghost lawful = { λ _. Unit {0} };
 
-    ghost laws = { λ v _. over_laws v.nodes.now v.areas.now.slots (at_most_16 v.sixteen) v.stands v.accepted };
+    ghost laws = { λ v _. over_laws v.nodes.all.now v.areas.now.slots (at_most_16 v.sixteen) v.stands v.accepted };
 
     fn value(&self, leg: &Leg, step: HalfStep) -> i64 {
         let values = Values {
-            all: values_at(self.nodes, leg, step),
+            all: self.nodes.values_at(leg, step),
         };
         unite(&values, 1 << 60, &self.areas.slots)
     }
 
     fn steepness(&self, leg: &Leg) -> i64 {
         let extents = Extents {
-            all: steepnesses(self.nodes, leg),
+            all: self.nodes.steepnesses(leg),
             margin: 1,
         };
         unite(&extents, 0, &self.areas.slots)
@@ -35,7 +34,7 @@ impl<'a> Field for View<'a> {
 
     fn reach(&self) -> i64 {
         let extents = Extents {
-            all: reaches(self.nodes),
+            all: self.nodes.reaches(),
             margin: 2048,
         };
         unite(&extents, 1 << 60, &self.areas.slots)
@@ -43,7 +42,7 @@ impl<'a> Field for View<'a> {
 
     fn bound(&self, leg: &Leg, piece: Piece) -> Form {
         let forms = Forms {
-            all: forms_on(self.nodes, leg, piece),
+            all: self.nodes.forms_on(leg, piece),
         };
         let start = Form {
             u0: 1 << 60,

@@ -1,27 +1,21 @@
 -- That the numbers of a lawful field, and what the layers make of them, fit 64 bits. All of it follows from the laws.
-use Rattle.std.proofs.Common.{◌≡◌, ℕ, ◌<◌, ◌≤◌, ℤ, pos, ◌+ℤ◌, ◌-ℤ◌, ◌*ℤ◌, ◌≤ℤ◌, sym, ap, ◌∙◌, subst, ap₂, arith, w64, SFits}
+use Rattle.std.proofs.Common.{◌≡◌, ℕ, ◌<◌, ◌≤◌, ℤ, pos, ◌-ℤ◌, ◌*ℤ◌, ◌≤ℤ◌, sym, ◌∙◌, subst, arith}
 use lib.IntN.{*ℤ_comm}
 use lib.Signed.{mag}
 use borrow.Author.Differences.{ints}
-use Rattle.std.specs.Int.{int_max}
 use Rattle.integer.specs.Numbers.{Within}
 use Rattle.integer.proofs.Order.{≤ℤ_trans, times≤}
 use Rattle.integer.proofs.Absolute.{under, over, within_from}
-use Rattle.integer.proofs.Extremes.{max_least}
-use Rattle.integer.proofs.Machine.{stored, kept, fits_is, stored_is}
+use Rattle.integer.proofs.Machine.{stored, kept}
 use Rattle.leg.specs.declared.shapes.Leg.{Leg}
 use Rattle.leg.specs.Ranges.{IsPiece}
 use Rattle.leg.specs.Places.{OnLeg}
 use Rattle.leg.proofs.Halving.{width_limit}
 use Rattle.affine.specs.declared.Form.{Form}
-use Rattle.affine.specs.Fits.{LowFits, LesserFits, GreaterFits, OppositeFits, EndsWithin}
-use Rattle.affine.proofs.Fitting.{ends_bounded, ends_fit, lesser_fits, greater_fits, opposite_fits}
+use Rattle.affine.specs.Fits.{LowFits, LesserFits, OppositeFits, EndsWithin, end_limit}
+use Rattle.affine.proofs.Fitting.{ends_bounded, ends_fit, lesser_fits, opposite_fits}
 use Rattle.field.specs.Meaning.{Meaning, Laws, reach_bound}
 use Rattle.field.specs.Bounds.{at_middle, spread}
-
--- twice the greatest reach
-abbrev pub end_limit : ℕ
-end_limit = 2305843009215791104
 
 -- a half-step is a place
 pub step_on_leg : (s : ℕ) → s ≤ 4096 → OnLeg (pos s) (pos 1)
@@ -67,42 +61,19 @@ module _ (field : Meaning) (laws : Laws field) (leg : Leg) where
       high = end_within (field.value leg (pos m) (pos 1)) _ _ field.reach middle_within (laws.high_near leg m r piece) width_in_reach laws.reach_in_limit;
     }
 
-    -- ---- what the operations on a bound ask, of the form that was answered
+    -- ---- the form that was answered, and what the operations on it ask
 
-    pub bound_low_fits : {u : Form} → u ≡ field.bound leg m r → LowFits u
-    bound_low_fits e = subst LowFits (sym e) (ends_fit end_limit (field.bound leg m r) ends_within tt).low
+    module _ {u : Form} (e : u ≡ field.bound leg m r) where
+      pub answer_within : EndsWithin end_limit u
+      answer_within = subst (λ (w : Form). EndsWithin end_limit w) (sym e) ends_within
 
-    pub bound_opposite_fits : {u : Form} → u ≡ field.bound leg m r → OppositeFits u
-    bound_opposite_fits e = subst OppositeFits (sym e) (opposite_fits (ends_bounded end_limit (field.bound leg m r) ends_within) tt)
+      pub bound_low_fits : LowFits u
+      bound_low_fits = (ends_fit end_limit u answer_within tt).low
 
--- ---- two fields
+      pub bound_opposite_fits : OppositeFits u
+      bound_opposite_fits = opposite_fits (ends_bounded end_limit u answer_within) tt
 
+-- the forms that two fields answered can be compared
 module _ (f g : Meaning) (F : Laws f) (G : Laws g) (leg : Leg) (m r : ℕ) (piece : IsPiece m r) {u v : Form} (a : u ≡ f.bound leg m r) (b : v ≡ g.bound leg m r) where
-  first_ends : EndsWithin end_limit u
-  first_ends = subst (λ (w : Form). EndsWithin end_limit w) (sym a) (ends_within f F leg m r piece)
-
-  second_ends : EndsWithin end_limit v
-  second_ends = subst (λ (w : Form). EndsWithin end_limit w) (sym b) (ends_within g G leg m r piece)
-
   pub bounds_lesser_fit : LesserFits u v
-  bounds_lesser_fit = lesser_fits end_limit u v first_ends second_ends tt tt
-
-  pub bounds_greater_fit : GreaterFits u v
-  bounds_greater_fit = greater_fits end_limit u v first_ends second_ends tt tt
-
--- the larger of two answers and k more, where neither is above the greatest reach
-module _ (k : ℕ) (small : k ≤ 2048) {x y z a b : ℤ} (okx : mag x < 9223372036854775808) (oky : mag y < 9223372036854775808) (okz : mag z < 9223372036854775808) (ex : x ≡ a) (ey : y ≡ b) (ez : z ≡ int_max (stored x) (stored y)) (first : a ≤ℤ reach_bound) (second : b ≤ℤ reach_bound) where
-  larger_is : stored z ≡ int_max a b
-  larger_is = kept okz ∙ ez ∙ ap₂ int_max (kept okx ∙ ex) (kept oky ∙ ey)
-
-  sum_fits : SFits w64 (int_max a b +ℤ pos k)
-  sum_fits = plain (int_max a b) (fits_is (sym (sym (kept {z = z} okz) ∙ larger_is)) (record { sfits = okz })) (max_least first second)
-    where
-      plain : (w : ℤ) → SFits w64 w → w ≤ℤ reach_bound → SFits w64 (w +ℤ pos k)
-      plain w h l = omega (arith, ints)
-
-  pub larger_fits : SFits w64 (stored z +ℤ pos k)
-  larger_fits = fits_is (ap (λ (w : ℤ). w +ℤ pos k) larger_is) sum_fits
-
-  pub larger_value : stored (stored z +ℤ pos k) ≡ int_max a b +ℤ pos k
-  larger_value = stored_is (ap (λ (w : ℤ). w +ℤ pos k) larger_is) sum_fits
+  bounds_lesser_fit = lesser_fits end_limit u v (answer_within f F leg m r piece a) (answer_within g G leg m r piece b) tt tt

@@ -21,13 +21,13 @@ use Rattle.field.specs.Layers.{joined, union_of, common_of, InLimit}
 use Rattle.field.specs.Bounds.{at_middle, spread, under_high}
 
 -- what joining takes from a choice between two numbers and the like between two forms
-record Picks (pick : ℤ → ℤ → ℤ) (join : Form → Form → Form) : Type 0 where
-  within : (a b s : ℤ) → Within a s → Within b s → Within (pick a b) s
-  scaled : (a b k : ℤ) → pos 0 ≤ℤ k → pick a b *ℤ k ≡ pick (a *ℤ k) (b *ℤ k)
-  near : (a b c d s : ℤ) → Within (a -ℤ c) s → Within (b -ℤ d) s → Within (pick a b -ℤ pick c d) s
-  low : (u v : Form) → pos 0 ≤ℤ u.u2 → pos 0 ≤ℤ v.u2 → low_end (join u v) ≡ pick (low_end u) (low_end v)
-  high : (u v : Form) → pos 0 ≤ℤ u.u2 → pos 0 ≤ℤ v.u2 → high_end (join u v) ≤ℤ (pick (high_end u) (high_end v) +ℤ pos 1)
-  holds : (m r p q : ℤ) → OnPiece m r p q → (u v : Form) (n k d : ℤ) → Holds m r p q u n d → Holds m r p q v k d → Holds m r p q (join u v) (pick n k) d
+pub record Picks (pick : ℤ → ℤ → ℤ) (join : Form → Form → Form) : Type 0 where
+  pub within : (a b s : ℤ) → Within a s → Within b s → Within (pick a b) s
+  pub scaled : (a b k : ℤ) → pos 0 ≤ℤ k → pick a b *ℤ k ≡ pick (a *ℤ k) (b *ℤ k)
+  pub near : (a b c d s : ℤ) → Within (a -ℤ c) s → Within (b -ℤ d) s → Within (pick a b -ℤ pick c d) s
+  pub low : (u v : Form) → pos 0 ≤ℤ u.u2 → pos 0 ≤ℤ v.u2 → low_end (join u v) ≡ pick (low_end u) (low_end v)
+  pub high : (u v : Form) → pos 0 ≤ℤ u.u2 → pos 0 ≤ℤ v.u2 → high_end (join u v) ≤ℤ (pick (high_end u) (high_end v) +ℤ pos 1)
+  pub holds : (m r p q : ℤ) → OnPiece m r p q → (u v : Form) (n k d : ℤ) → Holds m r p q u n d → Holds m r p q v k d → Holds m r p q (join u v) (pick n k) d
 
 -- ---- two fields joined by such a choice
 
@@ -41,12 +41,6 @@ by_second a b e k h some = times_right≤ some (at_most_more h (max_second a b))
 -- the larger steepness, and 1 more for the rounding of the joined form's centre
 one_more : (L r : ℤ) → (L +ℤ pos 0) *ℤ r +ℤ r ≡ (L +ℤ pos 1) *ℤ r
 one_more = ring 2 (λ L r. (L :+ con (pos 0)) :* r :+ r := (L :+ con (pos 1)) :* r) refl
-
-near_high : (V H P s r : ℤ) → pos 1 ≤ℤ r → V ≤ℤ H → H ≤ℤ (P +ℤ pos 1) → Within (P -ℤ V) s → Within (H -ℤ V) (s +ℤ r)
-near_high V H P s r wide above below w = near_above V H P s r wide above below w
-
-steepness_fits : (a b R S : ℤ) → (pos 2048 *ℤ a) ≤ℤ R → (pos 2048 *ℤ b) ≤ℤ S → (pos 2048 *ℤ (int_max a b +ℤ pos 1)) ≤ℤ (int_max R S +ℤ pos 2048)
-steepness_fits a b R S h k = larger_scaled a b R S h k
 
 square≥0 : {q : ℤ} → pos 1 ≤ℤ q → pos 0 ≤ℤ (q *ℤ q)
 square≥0 h = product≥0 (weaker h) (weaker h)
@@ -96,14 +90,14 @@ module _ (pick : ℤ → ℤ → ℤ) (join : Form → Form → Form) (c : Picks
     joined_high : Within (high_end (both.bound leg m r) -ℤ both.value leg (pos m) (pos 1)) (both.steepness leg *ℤ pos r)
     joined_high =
         within_same
-        (near_high (both.value leg (pos m) (pos 1)) (high_end (both.bound leg m r)) (pick (high_end (f.bound leg m r)) (high_end (g.bound leg m r))) ((int_max (f.steepness leg) (g.steepness leg) +ℤ pos 0) *ℤ pos r) (pos r)
+        (near_above (both.value leg (pos m) (pos 1)) (high_end (both.bound leg m r)) (pick (high_end (f.bound leg m r)) (high_end (g.bound leg m r))) ((int_max (f.steepness leg) (g.steepness leg) +ℤ pos 0) *ℤ pos r) (pos r)
         (at_middle m r piece).wide
         (under_high m r piece (both.bound leg m r) (both.value leg (pos m) (pos 1)) (joined_holds (pos m) (pos 1) (at_middle m r piece)))
         (c.high (f.bound leg m r) (g.bound leg m r) first_spread second_spread)
         (picked_near (pos 0) _ _ (record { le = tt }) (F.high_near leg m r piece) (G.high_near leg m r piece)))
         refl (one_more (int_max (f.steepness leg) (g.steepness leg)) (pos r))
 
-  joined_laws : InLimit both → Laws both
+  pub joined_laws : InLimit both → Laws both
   joined_laws limit = record {
     same_fraction = λ leg p q p' q' at at' same.
         c.scaled (f.value leg p q) (g.value leg p q) (q' *ℤ q') (square≥0 at'.parts)
@@ -114,7 +108,7 @@ module _ (pick : ℤ → ℤ → ℤ) (join : Form → Form → Form) (c : Picks
         (within_wider (F.in_reach leg p q at) (by_first f.reach g.reach (pos 2048) (q *ℤ q) (record { le = tt }) (square≥0 at.parts)))
         (within_wider (G.in_reach leg p q at) (by_second f.reach g.reach (pos 2048) (q *ℤ q) (record { le = tt }) (square≥0 at.parts)));
     steepness≥0 = λ leg. larger≥0 (f.steepness leg) (g.steepness leg) (F.steepness≥0 leg);
-    steepness_in_reach = λ leg. steepness_fits (f.steepness leg) (g.steepness leg) f.reach g.reach (F.steepness_in_reach leg) (G.steepness_in_reach leg);
+    steepness_in_reach = λ leg. larger_scaled (f.steepness leg) (g.steepness leg) f.reach g.reach (F.steepness_in_reach leg) (G.steepness_in_reach leg);
     reach_in_limit = limit;
     holds = joined_holds;
     low_near = joined_low;
@@ -123,7 +117,7 @@ module _ (pick : ℤ → ℤ → ℤ) (join : Form → Form → Form) (c : Picks
 
 -- ---- the lesser and the greater are such choices
 
-lesser_picks : Picks int_min lesser_of
+pub lesser_picks : Picks int_min lesser_of
 lesser_picks = record {
   within = λ a b s v w. min_has a b (λ (x : ℤ). Within x s) v w;
   scaled = min_scaled;
@@ -133,7 +127,7 @@ lesser_picks = record {
   holds = λ m r p q on u v n k d h l. holds_lesser m r p q on u v n k d h l;
 }
 
-greater_picks : Picks int_max greater_of
+pub greater_picks : Picks int_max greater_of
 greater_picks = record {
   within = λ a b s v w. max_has a b (λ (x : ℤ). Within x s) v w;
   scaled = max_scaled;

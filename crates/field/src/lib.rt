@@ -2,13 +2,13 @@
 // `new` makes it and cannot refuse.
 #![tactic(auto)]
 
-mod common_parts;
 mod field;
+mod join;
+mod joined;
 mod limit;
 mod outsides;
-mod unions;
 
-pub use common_parts::Common;
 pub use field::Field;
+pub use join::{Greater, Join, Lesser};
+pub use joined::{Common, Joined, Union};
 pub use outsides::Outside;
-pub use unions::Union;

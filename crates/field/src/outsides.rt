@@ -1,6 +1,4 @@
-ghost use Rattle.std.specs.Prelude.{◌≡◌, neg_ℤ, MatchResult};
-ghost use Rattle.integer.specs.Numbers.{Within};
-ghost use Rattle.field.specs.Meaning.{reach_bound};
+ghost use Rattle.std.specs.Prelude.{◌≡◌, MatchResult};
 ghost use Rattle.field.specs.Layers.{outside_of, InLimit};
 ghost use Rattle.field.specs.Opposing.{outside_laws};
 
@@ -32,14 +30,6 @@ impl<F: Field> Outside<F> {
     }
 }
 
-// A value of a lawful field, negated.
-fn opposite(value: i64) -> i64
-    requires { Within value reach_bound }
-    ensures { result ≡ neg_ℤ value }
-{
-    -value
-}
-
 impl<F: Field> Field for Outside<F> {
     ghost meaning = { λ o. outside_of (F.Field.meaning o.part) };
 
@@ -48,7 +38,7 @@ impl<F: Field> Field for Outside<F> {
     ghost laws = { λ o lawful. outside_laws (F.Field.meaning o.part) (F.Field.laws o.part lawful) };
 
     fn value(&self, leg: &Leg, step: HalfStep) -> i64 {
-        opposite(self.part.value(leg, step))
+        -self.part.value(leg, step)
     }
 
     fn steepness(&self, leg: &Leg) -> i64 {

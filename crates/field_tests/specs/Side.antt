@@ -13,9 +13,9 @@ ahead c d p q = pos 4096 *ℤ c *ℤ q +ℤ d *ℤ p
 
 abbrev pub side_of : ℤ → Meaning
 side_of a = record {
-  value = λ leg p q. ahead (leg.x1 -ℤ a) (leg.x2 -ℤ leg.x1) p q *ℤ q;
-  steepness = λ leg. absℤ (leg.x2 -ℤ leg.x1);
-  bound = λ leg m r. record { u0 = ahead (leg.x1 -ℤ a) (leg.x2 -ℤ leg.x1) (pos m) (pos 1); u1 = (leg.x2 -ℤ leg.x1) *ℤ pos r; u2 = pos 0 };
+  value = λ leg p q. ahead (leg.start.x -ℤ a) (leg.end.x -ℤ leg.start.x) p q *ℤ q;
+  steepness = λ leg. absℤ (leg.end.x -ℤ leg.start.x);
+  bound = λ leg m r. record { u0 = ahead (leg.start.x -ℤ a) (leg.end.x -ℤ leg.start.x) (pos m) (pos 1); u1 = (leg.end.x -ℤ leg.start.x) *ℤ pos r; u2 = pos 0 };
   reach = pos 33554432;
 }
 
@@ -51,18 +51,18 @@ side_high v d r =
 
 pub side_laws : (a : ℤ) → Within a (pos 4096) → Laws (side_of a)
 side_laws a small = record {
-  same_fraction = λ leg p q p' q' at at' same. same_side (leg.x1 -ℤ a) (leg.x2 -ℤ leg.x1) p q p' q' same;
-  in_reach = λ leg p q at. side_reach a leg.x1 leg.x2 p q small (within_natural leg.x1 4096 leg.start.0) (within_natural leg.x2 4096 leg.end.0) at.parts at.from at.to;
-  steepness≥0 = λ leg. abs≥0 (leg.x2 -ℤ leg.x1);
-  steepness_in_reach = λ leg. difference leg.x1 leg.x2 (within_natural leg.x1 4096 leg.start.0) (within_natural leg.x2 4096 leg.end.0);
+  same_fraction = λ leg p q p' q' at at' same. same_side (leg.start.x -ℤ a) (leg.end.x -ℤ leg.start.x) p q p' q' same;
+  in_reach = λ leg p q at. side_reach a leg.start.x leg.end.x p q small (within_natural leg.start.x 4096 leg.start_on_map.0) (within_natural leg.end.x 4096 leg.end_on_map.0) at.parts at.from at.to;
+  steepness≥0 = λ leg. abs≥0 (leg.end.x -ℤ leg.start.x);
+  steepness_in_reach = λ leg. difference leg.start.x leg.end.x (within_natural leg.start.x 4096 leg.start_on_map.0) (within_natural leg.end.x 4096 leg.end_on_map.0);
   reach_in_limit = record { le = tt };
   holds = λ leg m r piece p q on. record {
     bottom = product≥1 on.parts on.parts;
     close = within_same (within_self (record { le = tt }))
         (ring 6 (λ c d p q m r. con (pos 0) := r :* (q :* ((con (pos 4096) :* c :* q :+ d :* p) :* q) :- (con (pos 4096) :* c :* con (pos 1) :+ d :* m) :* q :* (q :* q)) :- d :* r :* (q :* q) :* (p :- m :* q)) refl
-        (leg.x1 -ℤ a) (leg.x2 -ℤ leg.x1) p q (pos m) (pos r))
+        (leg.start.x -ℤ a) (leg.end.x -ℤ leg.start.x) p q (pos m) (pos r))
         (ring 3 (λ r q d. con (pos 0) := con (pos 0) :* r :* q :* d) refl (pos r) q (q *ℤ q));
   };
-  low_near = λ leg m r piece. side_low (ahead (leg.x1 -ℤ a) (leg.x2 -ℤ leg.x1) (pos m) (pos 1)) (leg.x2 -ℤ leg.x1) r;
-  high_near = λ leg m r piece. side_high (ahead (leg.x1 -ℤ a) (leg.x2 -ℤ leg.x1) (pos m) (pos 1)) (leg.x2 -ℤ leg.x1) r;
+  low_near = λ leg m r piece. side_low (ahead (leg.start.x -ℤ a) (leg.end.x -ℤ leg.start.x) (pos m) (pos 1)) (leg.end.x -ℤ leg.start.x) r;
+  high_near = λ leg m r piece. side_high (ahead (leg.start.x -ℤ a) (leg.end.x -ℤ leg.start.x) (pos m) (pos 1)) (leg.end.x -ℤ leg.start.x) r;
 }

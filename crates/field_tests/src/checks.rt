@@ -2,6 +2,7 @@
 use crate::level::Level;
 use crate::side::Side;
 use field::{Common, Outside, Union};
+use leg::Point;
 use leg_check::{Verdict, check as check_leg};
 use refusal::Refusal;
 use std::test::Fail;
@@ -10,7 +11,7 @@ use std::test::Fail;
 fn clear_at_once(rt: HostRuntime) -> Result<(), Fail> {
     let field = Level { value: 1 };
     assert_eq!(rt;
-        check_leg(&field, 0, 0, 0, 1, 0, 0)?,
+        check_leg(&field, Point::new(0, 0, 0), Point::new(1, 0, 0))?,
         Verdict::Clear { bounds: 1 }
     );
     Ok(())
@@ -19,7 +20,10 @@ fn clear_at_once(rt: HostRuntime) -> Result<(), Fail> {
 #[test]
 fn inside_at_zero(rt: HostRuntime) -> Result<(), Fail> {
     let field = Level { value: 0 };
-    assert_eq!(rt; check_leg(&field, 0, 0, 0, 1, 0, 0)?, Verdict::Inside);
+    assert_eq!(rt;
+        check_leg(&field, Point::new(0, 0, 0), Point::new(1, 0, 0))?,
+        Verdict::Inside
+    );
     Ok(())
 }
 
@@ -27,7 +31,7 @@ fn inside_at_zero(rt: HostRuntime) -> Result<(), Fail> {
 fn entered(rt: HostRuntime) -> Result<(), Fail> {
     let field = Side { x: 0 };
     assert_eq!(rt;
-        check_leg(&field, 100, 0, 100, -100, 0, 100)?,
+        check_leg(&field, Point::new(100, 0, 100), Point::new(-100, 0, 100))?,
         Verdict::Entered {
             piece: 1023,
             bounds: 22,
@@ -41,7 +45,7 @@ fn entered(rt: HostRuntime) -> Result<(), Fail> {
 fn entered_at_the_end(rt: HostRuntime) -> Result<(), Fail> {
     let field = Side { x: 0 };
     assert_eq!(rt;
-        check_leg(&field, 1, 0, 0, 0, 0, 0)?,
+        check_leg(&field, Point::new(1, 0, 0), Point::new(0, 0, 0))?,
         Verdict::Entered {
             piece: 2047,
             bounds: 23,
@@ -54,11 +58,11 @@ fn entered_at_the_end(rt: HostRuntime) -> Result<(), Fail> {
 fn refused(rt: HostRuntime) {
     let field = Side { x: 0 };
     assert_eq!(rt;
-        check_leg(&field, 4097, 0, 0, 4097, 0, 0),
+        check_leg(&field, Point::new(4097, 0, 0), Point::new(4097, 0, 0)),
         Err(Refusal::CoordinateRange)
     );
     assert_eq!(rt;
-        check_leg(&field, 7, 7, 7, 7, 7, 7),
+        check_leg(&field, Point::new(7, 7, 7), Point::new(7, 7, 7)),
         Err(Refusal::SamePoint)
     );
 }
@@ -73,12 +77,20 @@ fn in_a_union_on_either_side(rt: HostRuntime) -> Result<(), Fail> {
     };
     Union::fits(&side, &level)?;
     assert_eq!(rt;
-        check_leg(&Union::new(side, level), 100, 0, 100, -100, 0, 100)?,
+        check_leg(
+            &Union::new(side, level),
+            Point::new(100, 0, 100),
+            Point::new(-100, 0, 100)
+        )?,
         entered
     );
     Union::fits(&level, &side)?;
     assert_eq!(rt;
-        check_leg(&Union::new(level, side), 100, 0, 100, -100, 0, 100)?,
+        check_leg(
+            &Union::new(level, side),
+            Point::new(100, 0, 100),
+            Point::new(-100, 0, 100)
+        )?,
         entered
     );
     Ok(())
@@ -91,7 +103,11 @@ fn near(rt: HostRuntime) -> Result<(), Fail> {
     let west = Outside::new(east);
     Common::fits(&east, &west)?;
     assert_eq!(rt;
-        check_leg(&Common::new(east, west), -1, 0, 0, 2, 0, 0)?,
+        check_leg(
+            &Common::new(east, west),
+            Point::new(-1, 0, 0),
+            Point::new(2, 0, 0)
+        )?,
         Verdict::Near {
             piece: 682,
             bounds: 17,
@@ -105,9 +121,12 @@ fn outside(rt: HostRuntime) -> Result<(), Fail> {
     let side = Side { x: 0 };
     Outside::fits(&side)?;
     let outside = Outside::new(side);
-    assert_eq!(rt; check_leg(&outside, 1, 0, 0, 2, 0, 0)?, Verdict::Inside);
     assert_eq!(rt;
-        check_leg(&outside, -2, 0, 0, -1, 0, 0)?,
+        check_leg(&outside, Point::new(1, 0, 0), Point::new(2, 0, 0))?,
+        Verdict::Inside
+    );
+    assert_eq!(rt;
+        check_leg(&outside, Point::new(-2, 0, 0), Point::new(-1, 0, 0))?,
         Verdict::Clear { bounds: 1 }
     );
     Ok(())
@@ -121,22 +140,32 @@ fn layers_of_layers(rt: HostRuntime) -> Result<(), Fail> {
     let right_of_left = Outside::new(&left);
     Common::fits(&right, &right_of_left)?;
     let strip = Common::new(&right, right_of_left);
-    assert_eq!(rt; check_leg(&strip, 0, 0, 0, 100, 0, 0)?, Verdict::Inside);
     assert_eq!(rt;
-        check_leg(&Outside::new(&strip), 0, 0, 0, 9, 0, 0)?,
+        check_leg(&strip, Point::new(0, 0, 0), Point::new(100, 0, 0))?,
+        Verdict::Inside
+    );
+    assert_eq!(rt;
+        check_leg(
+            &Outside::new(&strip),
+            Point::new(0, 0, 0),
+            Point::new(9, 0, 0)
+        )?,
         Verdict::Clear { bounds: 1 }
     );
     Ok(())
 }
 
+// The greatest reach that a field may have.
+const REACH_LIMIT: i64 = (1 << 60) + (1 << 20);
+
 #[test]
 fn reach_limit(rt: HostRuntime) {
     let zero = Level { value: 0 };
     let most = Level {
-        value: (1 << 60) + (1 << 20) - 2048,
+        value: REACH_LIMIT - 2048,
     };
     let more = Level {
-        value: (1 << 60) + (1 << 20) - 2047,
+        value: REACH_LIMIT - 2047,
     };
     assert_eq!(rt; Union::fits(&most, &zero), Ok(()));
     assert_eq!(rt; Union::fits(&zero, &more), Err(Refusal::LayerReach));

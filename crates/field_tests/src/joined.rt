@@ -6,6 +6,7 @@ ghost use Rattle.field.specs.Layers.{union_of, outside_of, InLimit};
 ghost use Rattle.leg_check.specs.Judging.{Judged};
 
 use field::{Field, Outside, Union};
+use leg::Point;
 use leg_check::{Verdict, check};
 use refusal::Refusal;
 
@@ -13,17 +14,13 @@ use refusal::Refusal;
 pub fn check_joined<A: Field, B: Field>(
     first: &A,
     second: &B,
-    x1: i64,
-    y1: i64,
-    z1: i64,
-    x2: i64,
-    y2: i64,
-    z2: i64,
+    start: Point,
+    end: Point,
 ) -> Result<Verdict, Refusal>
     requires { (A.Field.lawful first.now) × (B.Field.lawful second.now) }
-    ensures { MatchResult result (λ v. Judged (union_of (A.Field.meaning first.now) (outside_of (B.Field.meaning second.now))) x1 y1 z1 x2 y2 z2 v) (λ e. ((number_of e ≡ 23) × (InLimit (union_of (A.Field.meaning first.now) (outside_of (B.Field.meaning second.now))) → ⊥)) ⊎ (number_of e ≡ leg_refusal x1 y1 z1 x2 y2 z2)) }
+    ensures { MatchResult result (λ v. Judged (union_of (A.Field.meaning first.now) (outside_of (B.Field.meaning second.now))) start end v) (λ e. ((number_of e ≡ 23) × (InLimit (union_of (A.Field.meaning first.now) (outside_of (B.Field.meaning second.now))) → ⊥)) ⊎ (number_of e ≡ leg_refusal start end)) }
 {
     let outside = Outside::new(second);
     Union::fits(first, &outside)?;
-    check(&Union::new(first, outside), x1, y1, z1, x2, y2, z2)
+    check(&Union::new(first, outside), start, end)
 }

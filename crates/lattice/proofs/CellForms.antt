@@ -47,18 +47,18 @@ module _ (m r p q : ℤ) where
 
   pub form_in_holds : (h : ℕ → ℕ → ℤ) (leg : Leg) (i j : ℕ) → OnPiece m r p q → Holds m r p q (form_in h leg i j m r) (value_in h leg i j p q) (q *ℤ q)
   form_in_holds h leg i j at =
-      let f : Form = even (into_x leg i m (pos 1)) ((leg.x2 -ℤ leg.x1) *ℤ r) in
-      let g : Form = even (into_y leg j m (pos 1)) ((leg.y2 -ℤ leg.y1) *ℤ r) in
-      let z : Form = even (coordinate leg.z1 leg.z2 m (pos 1)) ((leg.z2 -ℤ leg.z1) *ℤ r) in
+      let f : Form = even (into_x leg i m (pos 1)) ((leg.end.x -ℤ leg.start.x) *ℤ r) in
+      let g : Form = even (into_y leg j m (pos 1)) ((leg.end.y -ℤ leg.start.y) *ℤ r) in
+      let z : Form = even (coordinate leg.start.z leg.end.z m (pos 1)) ((leg.end.z -ℤ leg.start.z) *ℤ r) in
       let fq : ℤ = into_x leg i p q in
       let gq : ℤ = into_y leg j p q in
-      let zq : ℤ = coordinate leg.z1 leg.z2 p q in
+      let zq : ℤ = coordinate leg.start.z leg.end.z p q in
       let kx : ℤ = pos 262144 *ℤ (h (suc i) j -ℤ h i j) in
       let ky : ℤ = pos 262144 *ℤ (h i (suc j) -ℤ h i j) in
       let kxy : ℤ = h i j -ℤ h (suc i) j -ℤ h i (suc j) +ℤ h (suc i) (suc j) in
-      let f-holds : Holds m r p q f fq q = into_holds leg.x1 leg.x2 i at.parts in
-      let g-holds : Holds m r p q g gq q = into_holds leg.y1 leg.y2 j at.parts in
-      let z-holds : Holds m r p q z zq q = coordinate_holds leg.z1 leg.z2 at.parts in
+      let f-holds : Holds m r p q f fq q = into_holds leg.start.x leg.end.x i at.parts in
+      let g-holds : Holds m r p q g gq q = into_holds leg.start.y leg.end.y j at.parts in
+      let z-holds : Holds m r p q z zq q = coordinate_holds leg.start.z leg.end.z at.parts in
       let linear : Holds m r p q (sum_of (scaled_by kx f) (scaled_by ky g)) (kx *ℤ (q *ℤ fq) +ℤ ky *ℤ (q *ℤ gq)) (q *ℤ q) =
       holds_sum m r p q (scaled_by kx f) (scaled_by ky g) (kx *ℤ (q *ℤ fq)) (ky *ℤ (q *ℤ gq)) (q *ℤ q)
       (scaled_holds m r p q kx f (q *ℤ fq) (q *ℤ q) (rescaled_holds m r p q q f fq q at.parts f-holds))
@@ -124,12 +124,12 @@ module _ (a b m r : ℤ) (i : ℕ)
 
 -- L r, with the half-width in the moves
 pub steep_times : (D : ℤ) (leg : Leg) (r : ℤ) → pos 0 ≤ℤ r →
-    pos 16777216 *ℤ absℤ ((leg.z2 -ℤ leg.z1) *ℤ r) +ℤ pos 786432 *ℤ D *ℤ (absℤ ((leg.x2 -ℤ leg.x1) *ℤ r) +ℤ absℤ ((leg.y2 -ℤ leg.y1) *ℤ r)) ≡ steepness D leg *ℤ r
+    pos 16777216 *ℤ absℤ ((leg.end.z -ℤ leg.start.z) *ℤ r) +ℤ pos 786432 *ℤ D *ℤ (absℤ ((leg.end.x -ℤ leg.start.x) *ℤ r) +ℤ absℤ ((leg.end.y -ℤ leg.start.y) *ℤ r)) ≡ steepness D leg *ℤ r
 unfolding steepness
 steep_times D leg r r≥0 =
-    ap₂ (λ (c ab : ℤ). pos 16777216 *ℤ c +ℤ pos 786432 *ℤ D *ℤ ab) (move (leg.z2 -ℤ leg.z1)) (ap₂ ◌+ℤ◌ (move (leg.x2 -ℤ leg.x1)) (move (leg.y2 -ℤ leg.y1)))
+    ap₂ (λ (c ab : ℤ). pos 16777216 *ℤ c +ℤ pos 786432 *ℤ D *ℤ ab) (move (leg.end.z -ℤ leg.start.z)) (ap₂ ◌+ℤ◌ (move (leg.end.x -ℤ leg.start.x)) (move (leg.end.y -ℤ leg.start.y)))
     ∙ ring 5 (λ d x y z r. con (pos 16777216) :* (z :* r) :+ con (pos 786432) :* d :* (x :* r :+ y :* r) := (con (pos 16777216) :* z :+ con (pos 786432) :* d :* (x :+ y)) :* r) refl
-    D (absℤ (leg.x2 -ℤ leg.x1)) (absℤ (leg.y2 -ℤ leg.y1)) (absℤ (leg.z2 -ℤ leg.z1)) r
+    D (absℤ (leg.end.x -ℤ leg.start.x)) (absℤ (leg.end.y -ℤ leg.start.y)) (absℤ (leg.end.z -ℤ leg.start.z)) r
   where
     move : (d : ℤ) → absℤ (d *ℤ r) ≡ absℤ d *ℤ r
     move d = abs_product d r ∙ ap (λ (x : ℤ). absℤ d *ℤ x) (abs_of r≥0)
@@ -181,17 +181,17 @@ module _ (h : ℕ → ℕ → ℤ) (D : ℤ) (steps : Steps h D) (i j : ℕ) (i<
 
   -- the form's slope and slack are within L r
   pub form_in_narrow : (leg : Leg) (m r : ℤ) → pos 0 ≤ℤ r →
-      InCell (width (pos 1)) i (from_edge leg.x1 leg.x2 (m -ℤ r) (pos 1)) → InCell (width (pos 1)) i (from_edge leg.x1 leg.x2 (m +ℤ r) (pos 1)) →
-      InCell (width (pos 1)) j (from_edge leg.y1 leg.y2 (m -ℤ r) (pos 1)) → InCell (width (pos 1)) j (from_edge leg.y1 leg.y2 (m +ℤ r) (pos 1)) →
+      InCell (width (pos 1)) i (from_edge leg.start.x leg.end.x (m -ℤ r) (pos 1)) → InCell (width (pos 1)) i (from_edge leg.start.x leg.end.x (m +ℤ r) (pos 1)) →
+      InCell (width (pos 1)) j (from_edge leg.start.y leg.end.y (m -ℤ r) (pos 1)) → InCell (width (pos 1)) j (from_edge leg.start.y leg.end.y (m +ℤ r) (pos 1)) →
       (absℤ (form_in h leg i j m r).u1 +ℤ (form_in h leg i j m r).u2) ≤ℤ (steepness D leg *ℤ r)
   form_in_narrow leg m r r≥0 x_start x_end y_start y_end =
       subst (λ (l : ℤ). (absℤ (form_in h leg i j m r).u1 +ℤ (form_in h leg i j m r).u2) ≤ℤ l) (steep_times D leg r r≥0)
-      (slope_and_slack (into_x leg i m (pos 1)) (into_y leg j m (pos 1)) ((leg.x2 -ℤ leg.x1) *ℤ r) ((leg.y2 -ℤ leg.y1) *ℤ r) ((leg.z2 -ℤ leg.z1) *ℤ r)
-      (bound≥0 (above_edge leg.x1 leg.x2 m r i x_start x_end))
-      (bound≥0 (above_edge leg.y1 leg.y2 m r j y_start y_end))
-      (below_edge leg.x1 leg.x2 m r i x_start x_end)
-      (by_gap _ _ _ (bound≥0 (below_edge leg.y1 leg.y2 m r j y_start y_end)) refl)
-      (coordinate leg.z1 leg.z2 m (pos 1)))
+      (slope_and_slack (into_x leg i m (pos 1)) (into_y leg j m (pos 1)) ((leg.end.x -ℤ leg.start.x) *ℤ r) ((leg.end.y -ℤ leg.start.y) *ℤ r) ((leg.end.z -ℤ leg.start.z) *ℤ r)
+      (bound≥0 (above_edge leg.start.x leg.end.x m r i x_start x_end))
+      (bound≥0 (above_edge leg.start.y leg.end.y m r j y_start y_end))
+      (below_edge leg.start.x leg.end.x m r i x_start x_end)
+      (by_gap _ _ _ (bound≥0 (below_edge leg.start.y leg.end.y m r j y_start y_end)) refl)
+      (coordinate leg.start.z leg.end.z m (pos 1)))
 
 -- the form's base is the formula's value at the middle
 pub form_in_base : (h : ℕ → ℕ → ℤ) (leg : Leg) (i j : ℕ) (m r : ℤ) → (form_in h leg i j m r).u0 ≡ value_in h leg i j m (pos 1)
@@ -201,4 +201,4 @@ form_in_base h leg i j m r =
     con (pos 16777216) :* z :+ neg (con (pos 262144) :* (b :- a) :* f :+ con (pos 262144) :* (c :- a) :* g :+ (a :- b :- c :+ d) :* (f :* g) :+ con (pos 68719476736) :* a)
     := con (pos 16777216) :* z :* con (pos 1)
     :- (con (pos 68719476736) :* a :* (con (pos 1) :* con (pos 1)) :+ con (pos 262144) :* (b :- a) :* f :* con (pos 1) :+ con (pos 262144) :* (c :- a) :* g :* con (pos 1) :+ (a :- b :- c :+ d) :* f :* g)) refl
-    (coordinate leg.z1 leg.z2 m (pos 1)) (into_x leg i m (pos 1)) (into_y leg j m (pos 1)) (h i j) (h (suc i) j) (h i (suc j)) (h (suc i) (suc j))
+    (coordinate leg.start.z leg.end.z m (pos 1)) (into_x leg i m (pos 1)) (into_y leg j m (pos 1)) (h i j) (h (suc i) j) (h i (suc j)) (h (suc i) (suc j))

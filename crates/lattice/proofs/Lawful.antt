@@ -41,10 +41,10 @@ by_test false P f g = g
 
 -- the four facts behind `lies_in_one_cell`
 record Stays (leg : Leg) (m r : ℤ) : Type 0 where
-  x_start : InCell (width (pos 1)) (cell_x leg m (pos 1)) (from_edge leg.x1 leg.x2 (m -ℤ r) (pos 1))
-  x_end : InCell (width (pos 1)) (cell_x leg m (pos 1)) (from_edge leg.x1 leg.x2 (m +ℤ r) (pos 1))
-  y_start : InCell (width (pos 1)) (cell_y leg m (pos 1)) (from_edge leg.y1 leg.y2 (m -ℤ r) (pos 1))
-  y_end : InCell (width (pos 1)) (cell_y leg m (pos 1)) (from_edge leg.y1 leg.y2 (m +ℤ r) (pos 1))
+  x_start : InCell (width (pos 1)) (cell_x leg m (pos 1)) (from_edge leg.start.x leg.end.x (m -ℤ r) (pos 1))
+  x_end : InCell (width (pos 1)) (cell_x leg m (pos 1)) (from_edge leg.start.x leg.end.x (m +ℤ r) (pos 1))
+  y_start : InCell (width (pos 1)) (cell_y leg m (pos 1)) (from_edge leg.start.y leg.end.y (m -ℤ r) (pos 1))
+  y_end : InCell (width (pos 1)) (cell_y leg m (pos 1)) (from_edge leg.start.y leg.end.y (m +ℤ r) (pos 1))
 
 stays : (leg : Leg) (m r : ℤ) → T (lies_in_one_cell leg m r) → Stays leg m r
 unfolding lies_in_one_cell
@@ -96,8 +96,8 @@ module _ (h : ℕ → ℕ → ℤ) (D : ℤ) (steps : Steps h D) (leg : Leg) (ma
   cell_holds m r p q on at s =
       subst (λ (n : ℤ). Holds m r p q (form_in h leg (cell_x leg m (pos 1)) (cell_y leg m (pos 1)) m r) n (q *ℤ q))
       (sym (value_by_cell h D steps leg map (cell_x leg m (pos 1)) (cell_y leg m (pos 1)) (cell_on_lattice _ _) (cell_on_lattice _ _) p q on
-      (place_in_cell leg.x1 leg.x2 m r (cell_x leg m (pos 1)) s.x_start s.x_end p q at)
-      (place_in_cell leg.y1 leg.y2 m r (cell_y leg m (pos 1)) s.y_start s.y_end p q at)))
+      (place_in_cell leg.start.x leg.end.x m r (cell_x leg m (pos 1)) s.x_start s.x_end p q at)
+      (place_in_cell leg.start.y leg.end.y m r (cell_y leg m (pos 1)) s.y_start s.y_end p q at)))
       (form_in_holds m r p q h leg (cell_x leg m (pos 1)) (cell_y leg m (pos 1)) at)
 
   cell_base : (m r : ℤ) → (form_in h leg (cell_x leg m (pos 1)) (cell_y leg m (pos 1)) m r).u0 ≡ value h leg m (pos 1)

@@ -65,17 +65,17 @@ edge_to a b p q a_in b_in at =
 pub at_place : (a b p q : ℤ) → Within a (pos 4096) → Within b (pos 4096) → OnLeg p q → InCell (width q) (cell_of (width q) (from_edge a b p q)) (from_edge a b p q)
 at_place a b p q a_in b_in at = in_its_cell (width q) (from_edge a b p q) (width≥1 q at.parts) (edge≥0 a b p q a_in b_in at) (edge_to a b p q a_in b_in at)
 
-pub in_cell_x : (leg : Leg) → OnMap leg → (p q : ℤ) → OnLeg p q → InCell (width q) (cell_x leg p q) (from_edge leg.x1 leg.x2 p q)
-in_cell_x leg map p q at = at_place leg.x1 leg.x2 p q map.x1_in map.x2_in at
+pub in_cell_x : (leg : Leg) → OnMap leg → (p q : ℤ) → OnLeg p q → InCell (width q) (cell_x leg p q) (from_edge leg.start.x leg.end.x p q)
+in_cell_x leg map p q at = at_place leg.start.x leg.end.x p q map.x1_in map.x2_in at
 
-pub in_cell_y : (leg : Leg) → OnMap leg → (p q : ℤ) → OnLeg p q → InCell (width q) (cell_y leg p q) (from_edge leg.y1 leg.y2 p q)
-in_cell_y leg map p q at = at_place leg.y1 leg.y2 p q map.y1_in map.y2_in at
+pub in_cell_y : (leg : Leg) → OnMap leg → (p q : ℤ) → OnLeg p q → InCell (width q) (cell_y leg p q) (from_edge leg.start.y leg.end.y p q)
+in_cell_y leg map p q at = at_place leg.start.y leg.end.y p q map.y1_in map.y2_in at
 
 -- ---- the formula of a cell is the surface of `Lattice`
 
 -- the value by cell (i, j), with the ground as a mix of its four heights
 pub value_in_is : (h : ℕ → ℕ → ℤ) (leg : Leg) (i j : ℕ) (p q : ℤ) →
-    value_in h leg i j p q ≡ pos 16777216 *ℤ coordinate leg.z1 leg.z2 p q *ℤ q -ℤ over_cell (width q) h i j (from_edge leg.x1 leg.x2 p q) (from_edge leg.y1 leg.y2 p q)
+    value_in h leg i j p q ≡ pos 16777216 *ℤ coordinate leg.start.z leg.end.z p q *ℤ q -ℤ over_cell (width q) h i j (from_edge leg.start.x leg.end.x p q) (from_edge leg.start.y leg.end.y p q)
 value_in_is h leg i j p q =
     ring 10 (λ q z u v ci cj a b c d.
     con (pos 16777216) :* z :* q :- (con (pos 68719476736) :* a :* (q :* q)
@@ -85,17 +85,17 @@ value_in_is h leg i j p q =
     := con (pos 16777216) :* z :* q :-
     ((con (pos 262144) :* q :- (v :- con (pos 262144) :* q :* cj)) :* ((con (pos 262144) :* q :- (u :- con (pos 262144) :* q :* ci)) :* a :+ (u :- con (pos 262144) :* q :* ci) :* b)
     :+ (v :- con (pos 262144) :* q :* cj) :* ((con (pos 262144) :* q :- (u :- con (pos 262144) :* q :* ci)) :* c :+ (u :- con (pos 262144) :* q :* ci) :* d))) refl
-    q (coordinate leg.z1 leg.z2 p q) (from_edge leg.x1 leg.x2 p q) (from_edge leg.y1 leg.y2 p q) (pos i) (pos j) (h i j) (h (suc i) j) (h i (suc j)) (h (suc i) (suc j))
+    q (coordinate leg.start.z leg.end.z p q) (from_edge leg.start.x leg.end.x p q) (from_edge leg.start.y leg.end.y p q) (pos i) (pos j) (h i j) (h (suc i) j) (h i (suc j)) (h (suc i) (suc j))
 
 -- the formula of any closed cell that the place lies in gives the value there
 pub value_by_cell : (h : ℕ → ℕ → ℤ) (D : ℤ) → Steps h D → (leg : Leg) → OnMap leg → (i j : ℕ) → i < 128 → j < 128 → (p q : ℤ) → OnLeg p q →
-    InCell (width q) i (from_edge leg.x1 leg.x2 p q) → InCell (width q) j (from_edge leg.y1 leg.y2 p q) →
+    InCell (width q) i (from_edge leg.start.x leg.end.x p q) → InCell (width q) j (from_edge leg.start.y leg.end.y p q) →
     value h leg p q ≡ value_in h leg i j p q
 unfolding value
 value_by_cell h D steps leg map i j i< j< p q at at_x at_y =
     value_in_is h leg (cell_x leg p q) (cell_y leg p q) p q
-    ∙ ap (λ (n : ℤ). pos 16777216 *ℤ coordinate leg.z1 leg.z2 p q *ℤ q -ℤ n)
+    ∙ ap (λ (n : ℤ). pos 16777216 *ℤ coordinate leg.start.z leg.end.z p q *ℤ q -ℤ n)
     (cells_agree (width q) (weaker (width≥1 q at.parts)) h D steps i j (cell_x leg p q) (cell_y leg p q)
-    (from_edge leg.x1 leg.x2 p q) (from_edge leg.y1 leg.y2 p q) i< j<
+    (from_edge leg.start.x leg.end.x p q) (from_edge leg.start.y leg.end.y p q) i< j<
     (cell_on_lattice _ _) (cell_on_lattice _ _) at_x at_y (in_cell_x leg map p q at) (in_cell_y leg map p q at))
     ∙ sym (value_in_is h leg i j p q)

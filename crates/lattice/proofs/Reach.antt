@@ -72,10 +72,10 @@ module _ (h : ℕ → ℕ → ℤ) where
 
     module _ (leg : Leg) (map : OnMap leg) where
       -- a place is a weighted mean of the two ends: z1 (4096 q - p) + z2 p
-      z_within : (p q : ℤ) → OnLeg p q → Within (coordinate leg.z1 leg.z2 p q) (pos 2703360 *ℤ q)
+      z_within : (p q : ℤ) → OnLeg p q → Within (coordinate leg.start.z leg.end.z p q) (pos 2703360 *ℤ q)
       z_within p q at =
           within_same (within_sum (within_product (end map.z1_from map.z1_to) (within_self (gap at.to))) (within_product (end map.z2_from map.z2_to) (within_self at.from)))
-          (ring 4 (λ a b p q. a :* (con (pos 4096) :* q :- p) :+ b :* p := con (pos 4096) :* a :* q :+ (b :- a) :* p) refl leg.z1 leg.z2 p q)
+          (ring 4 (λ a b p q. a :* (con (pos 4096) :* q :- p) :+ b :* p := con (pos 4096) :* a :* q :+ (b :- a) :* p) refl leg.start.z leg.end.z p q)
           (ring 2 (λ p q. con (pos 660) :* (con (pos 4096) :* q :- p) :+ con (pos 660) :* p := con (pos 2703360) :* q) refl p q)
         where
           end : {z : ℤ} → negsuc 15 ≤ℤ z → z ≤ℤ pos 660 → Within z (pos 660)
@@ -108,12 +108,12 @@ module _ (h : ℕ → ℕ → ℤ) where
           (ring 4 (λ d x y z. con (pos 34359738368) :* (con (pos 676) :- z) :+ con (pos 26388279066624) :* (con (pos 316) :- d)
           :+ con (pos 1610612736) :* d :* ((con (pos 8192) :- x) :+ (con (pos 8192) :- y)) :+ con (pos 9652475141292032)
           := con (pos 18014398509481984) :- con (pos 2048) :* (con (pos 16777216) :* z :+ con (pos 786432) :* d :* (x :+ y))) refl
-          D (absℤ (leg.x2 -ℤ leg.x1)) (absℤ (leg.y2 -ℤ leg.y1)) (absℤ (leg.z2 -ℤ leg.z1)))
+          D (absℤ (leg.end.x -ℤ leg.start.x)) (absℤ (leg.end.y -ℤ leg.start.y)) (absℤ (leg.end.z -ℤ leg.start.z)))
         where
           across : {a b : ℤ} → Within a (pos 4096) → Within b (pos 4096) → absℤ (b -ℤ a) ≤ℤ pos 8192
           across {a} {b} v w = abs_least (within_same (within_sum w (within_neg v)) refl refl)
 
-          climb : absℤ (leg.z2 -ℤ leg.z1) ≤ℤ pos 676
+          climb : absℤ (leg.end.z -ℤ leg.start.z) ≤ℤ pos 676
           climb =
               let a = map.z1_from in let b = map.z1_to in let c = map.z2_from in let d = map.z2_to in
-              abs_least (within_from (leg.z2 -ℤ leg.z1) (pos 676) (omega (arith, ints)) (omega (arith, ints)))
+              abs_least (within_from (leg.end.z -ℤ leg.start.z) (pos 676) (omega (arith, ints)) (omega (arith, ints)))

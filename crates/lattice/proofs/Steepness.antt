@@ -19,8 +19,8 @@ module _ (h : ℕ → ℕ → ℤ) (D : ℤ) (steps : Steps h D) (leg : Leg) whe
   pub steep≥0 : pos 0 ≤ℤ steepness D leg
   unfolding steepness
   steep≥0 =
-      sum≥0 (product≥0 (natural≥0 16777216) (abs≥0 (leg.z2 -ℤ leg.z1)))
-      (product≥0 (product≥0 (natural≥0 786432) step≥0) (sum≥0 (abs≥0 (leg.x2 -ℤ leg.x1)) (abs≥0 (leg.y2 -ℤ leg.y1))))
+      sum≥0 (product≥0 (natural≥0 16777216) (abs≥0 (leg.end.z -ℤ leg.start.z)))
+      (product≥0 (product≥0 (natural≥0 786432) step≥0) (sum≥0 (abs≥0 (leg.end.x -ℤ leg.start.x)) (abs≥0 (leg.end.y -ℤ leg.start.y))))
 
   module _ (map : OnMap leg) (p q p' q' : ℤ) (at : OnLeg p q) (at' : OnLeg p' q') where
     q≥0 : pos 0 ≤ℤ q
@@ -47,13 +47,13 @@ module _ (h : ℕ → ℕ → ℤ) (D : ℤ) (steps : Steps h D) (leg : Leg) whe
 
     -- the ground, q · q times at p, q and q' · q' times at p', q'
     ground : ℤ
-    ground = over_cell (width q) h (cell_x leg p q) (cell_y leg p q) (from_edge leg.x1 leg.x2 p q) (from_edge leg.y1 leg.y2 p q)
+    ground = over_cell (width q) h (cell_x leg p q) (cell_y leg p q) (from_edge leg.start.x leg.end.x p q) (from_edge leg.start.y leg.end.y p q)
 
     ground' : ℤ
-    ground' = over_cell (width q') h (cell_x leg p' q') (cell_y leg p' q') (from_edge leg.x1 leg.x2 p' q') (from_edge leg.y1 leg.y2 p' q')
+    ground' = over_cell (width q') h (cell_x leg p' q') (cell_y leg p' q') (from_edge leg.start.x leg.end.x p' q') (from_edge leg.start.y leg.end.y p' q')
 
     ground_close : Within (ground *ℤ (q' *ℤ q') -ℤ ground' *ℤ (q *ℤ q))
-        (width q' *ℤ q *ℤ D *ℤ (absℤ (leg.x2 -ℤ leg.x1) *ℤ absℤ apart +ℤ absℤ (leg.y2 -ℤ leg.y1) *ℤ absℤ apart))
+        (width q' *ℤ q *ℤ D *ℤ (absℤ (leg.end.x -ℤ leg.start.x) *ℤ absℤ apart +ℤ absℤ (leg.end.y -ℤ leg.start.y) *ℤ absℤ apart))
     unfolding ground ground'
     ground_close =
         within_same
@@ -63,20 +63,20 @@ module _ (h : ℕ → ℕ → ℤ) (D : ℤ) (steps : Steps h D) (leg : Leg) whe
         (cell_on_lattice _ _) (cell_on_lattice _ _) (cell_on_lattice _ _) (cell_on_lattice _ _)
         (in_cell_x leg map p' q' at') (in_cell_y leg map p' q' at') (in_cell_x leg map p q at) (in_cell_y leg map p q at))
         refl
-        (ap₂ (λ (a b : ℤ). width q' *ℤ q *ℤ D *ℤ (a +ℤ b)) (edges_apart leg.x1 leg.x2) (edges_apart leg.y1 leg.y2))
+        (ap₂ (λ (a b : ℤ). width q' *ℤ q *ℤ D *ℤ (a +ℤ b)) (edges_apart leg.start.x leg.end.x) (edges_apart leg.start.y leg.end.y))
 
-    climb_close : Within ((leg.z2 -ℤ leg.z1) *ℤ apart *ℤ (pos 16777216 *ℤ (q *ℤ q'))) (absℤ (leg.z2 -ℤ leg.z1) *ℤ absℤ apart *ℤ (pos 16777216 *ℤ (q *ℤ q')))
-    climb_close = within_product (within_product (within_abs (leg.z2 -ℤ leg.z1)) (within_abs apart)) (within_self (product≥0 (natural≥0 16777216) (product≥0 q≥0 q'≥0)))
+    climb_close : Within ((leg.end.z -ℤ leg.start.z) *ℤ apart *ℤ (pos 16777216 *ℤ (q *ℤ q'))) (absℤ (leg.end.z -ℤ leg.start.z) *ℤ absℤ apart *ℤ (pos 16777216 *ℤ (q *ℤ q')))
+    climb_close = within_product (within_product (within_abs (leg.end.z -ℤ leg.start.z)) (within_abs apart)) (within_self (product≥0 (natural≥0 16777216) (product≥0 q≥0 q'≥0)))
 
     -- the difference of the two values, over one bottom
-    difference : (leg.z2 -ℤ leg.z1) *ℤ apart *ℤ (pos 16777216 *ℤ (q *ℤ q')) +ℤ neg_ℤ (ground *ℤ (q' *ℤ q') -ℤ ground' *ℤ (q *ℤ q))
+    difference : (leg.end.z -ℤ leg.start.z) *ℤ apart *ℤ (pos 16777216 *ℤ (q *ℤ q')) +ℤ neg_ℤ (ground *ℤ (q' *ℤ q') -ℤ ground' *ℤ (q *ℤ q))
         ≡ value h leg p q *ℤ (q' *ℤ q') -ℤ value h leg p' q' *ℤ (q *ℤ q)
     unfolding value ground ground'
     difference =
-        ap (λ (x : ℤ). x *ℤ (pos 16777216 *ℤ (q *ℤ q')) +ℤ neg_ℤ (ground *ℤ (q' *ℤ q') -ℤ ground' *ℤ (q *ℤ q))) (sym (coordinates_apart leg.z1 leg.z2))
+        ap (λ (x : ℤ). x *ℤ (pos 16777216 *ℤ (q *ℤ q')) +ℤ neg_ℤ (ground *ℤ (q' *ℤ q') -ℤ ground' *ℤ (q *ℤ q))) (sym (coordinates_apart leg.start.z leg.end.z))
         ∙ ring 6 (λ q q' z z' n n'. (z :* q' :- z' :* q) :* (con (pos 16777216) :* (q :* q')) :+ neg (n :* (q' :* q') :- n' :* (q :* q))
         := (con (pos 16777216) :* z :* q :- n) :* (q' :* q') :- (con (pos 16777216) :* z' :* q' :- n') :* (q :* q)) refl
-        q q' (coordinate leg.z1 leg.z2 p q) (coordinate leg.z1 leg.z2 p' q') ground ground'
+        q q' (coordinate leg.start.z leg.end.z p q) (coordinate leg.start.z leg.end.z p' q') ground ground'
         ∙ ap₂ (λ (a b : ℤ). a *ℤ (q' *ℤ q') -ℤ b *ℤ (q *ℤ q)) (sym (value_in_is h leg (cell_x leg p q) (cell_y leg p q) p q)) (sym (value_in_is h leg (cell_x leg p' q') (cell_y leg p' q') p' q'))
 
     -- THE LAW: |F(p, q) q'² − F(p', q') q²| ≤ L |p q' − p' q| q q'
@@ -85,11 +85,11 @@ module _ (h : ℕ → ℕ → ℤ) (D : ℤ) (steps : Steps h D) (leg : Leg) whe
     values_close =
         within_wider (within_same (within_sum climb_close (within_neg ground_close)) difference refl)
         (by_gap _ _ _
-        (product≥0 (product≥0 (product≥0 (product≥0 (natural≥0 524288) step≥0) (sum≥0 (abs≥0 (leg.x2 -ℤ leg.x1)) (abs≥0 (leg.y2 -ℤ leg.y1)))) (abs≥0 apart)) (product≥0 q≥0 q'≥0))
+        (product≥0 (product≥0 (product≥0 (product≥0 (natural≥0 524288) step≥0) (sum≥0 (abs≥0 (leg.end.x -ℤ leg.start.x)) (abs≥0 (leg.end.y -ℤ leg.start.y)))) (abs≥0 apart)) (product≥0 q≥0 q'≥0))
         (ring 7 (λ d x y z e q q'. con (pos 524288) :* d :* (x :+ y) :* e :* (q :* q')
         := (con (pos 16777216) :* z :+ con (pos 786432) :* d :* (x :+ y)) :* e :* (q :* q')
         :- (z :* e :* (con (pos 16777216) :* (q :* q')) :+ con (pos 262144) :* q' :* q :* d :* (x :* e :+ y :* e))) refl
-        D (absℤ (leg.x2 -ℤ leg.x1)) (absℤ (leg.y2 -ℤ leg.y1)) (absℤ (leg.z2 -ℤ leg.z1)) (absℤ apart) q q'))
+        D (absℤ (leg.end.x -ℤ leg.start.x)) (absℤ (leg.end.y -ℤ leg.start.y)) (absℤ (leg.end.z -ℤ leg.start.z)) (absℤ apart) q q'))
 
     -- one fraction, one value
     pub same_fraction : p *ℤ q' ≡ p' *ℤ q → value h leg p q *ℤ (q' *ℤ q') ≡ value h leg p' q' *ℤ (q *ℤ q)

@@ -23,7 +23,7 @@ level =
     (con (pos 68719476736) :* c :* (q :* q) :+ con (pos 262144) :* (c :- c) :* f :* q :+ con (pos 262144) :* (c :- c) :* g :* q :+ (c :- c :- c :+ c) :* f :* g)
     := con (pos 68719476736) :* ((z :- c) :* (q :* q))) refl
 
-module _ (h : ℕ → ℕ → ℤ) (c : ℤ) (flat : (i j : ℕ) → i < 129 → j < 129 → h i j ≡ c) (leg : Leg) (z : ℤ) (first : leg.z1 ≡ z) (last : leg.z2 ≡ z) where
+module _ (h : ℕ → ℕ → ℤ) (c : ℤ) (flat : (i j : ℕ) → i < 129 → j < 129 → h i j ≡ c) (leg : Leg) (z : ℤ) (first : leg.start.z ≡ z) (last : leg.end.z ≡ z) where
   pub flat_value : (p q : ℤ) → value h leg p q ≡ pos 68719476736 *ℤ ((z -ℤ c) *ℤ (q *ℤ q))
   unfolding value
   flat_value p q =

@@ -22,7 +22,7 @@ SteepBetween h =
 
 -- Worked values over ground whose heights are all 10: a level leg at z = 11 has the value 2^36 everywhere, so at every half-step, and one at z = 10 is inside at its start.
 pub record WorkedTerrain : Type 0 where
-  pub above : (h : ℕ → ℕ → ℤ) → ((i j : ℕ) → i < 129 → j < 129 → h i j ≡ pos 10) → (leg : Leg) → leg.z1 ≡ pos 11 → leg.z2 ≡ pos 11 →
+  pub above : (h : ℕ → ℕ → ℤ) → ((i j : ℕ) → i < 129 → j < 129 → h i j ≡ pos 10) → (leg : Leg) → leg.start.z ≡ pos 11 → leg.end.z ≡ pos 11 →
       (p q : ℤ) → value h leg p q ≡ pos 68719476736 *ℤ (q *ℤ q)
-  pub inside : (h : ℕ → ℕ → ℤ) → ((i j : ℕ) → i < 129 → j < 129 → h i j ≡ pos 10) → (leg : Leg) → leg.z1 ≡ pos 10 → leg.z2 ≡ pos 10 →
+  pub inside : (h : ℕ → ℕ → ℤ) → ((i j : ℕ) → i < 129 → j < 129 → h i j ≡ pos 10) → (leg : Leg) → leg.start.z ≡ pos 10 → leg.end.z ≡ pos 10 →
       value h leg (pos 0) (pos 1) ≤ℤ pos 0

@@ -31,17 +31,17 @@ unfoldable pub cell_of : (w u : ℤ) → ℕ
 cell_of w u = min (unsigned_abs u / unsigned_abs w) 127
 
 abbrev pub cell_x : Leg → (p q : ℤ) → ℕ
-cell_x leg p q = cell_of (width q) (from_edge leg.x1 leg.x2 p q)
+cell_x leg p q = cell_of (width q) (from_edge leg.start.x leg.end.x p q)
 
 abbrev pub cell_y : Leg → (p q : ℤ) → ℕ
-cell_y leg p q = cell_of (width q) (from_edge leg.y1 leg.y2 p q)
+cell_y leg p q = cell_of (width q) (from_edge leg.start.y leg.end.y p q)
 
 -- how far the place lies into cell i in x, into cell j in y
 abbrev pub into_x : Leg → ℕ → (p q : ℤ) → ℤ
-into_x leg i p q = into (width q) i (from_edge leg.x1 leg.x2 p q)
+into_x leg i p q = into (width q) i (from_edge leg.start.x leg.end.x p q)
 
 abbrev pub into_y : Leg → ℕ → (p q : ℤ) → ℤ
-into_y leg j p q = into (width q) j (from_edge leg.y1 leg.y2 p q)
+into_y leg j p q = into (width q) j (from_edge leg.start.y leg.end.y p q)
 
 -- ---- the value
 
@@ -55,7 +55,7 @@ surface h i j f g q =
 
 -- the value by the formula of cell (i, j): 2^24 Z less the ground
 abbrev pub value_in : (ℕ → ℕ → ℤ) → Leg → (i j : ℕ) → (p q : ℤ) → ℤ
-value_in h leg i j p q = pos 16777216 *ℤ coordinate leg.z1 leg.z2 p q *ℤ q -ℤ surface h i j (into_x leg i p q) (into_y leg j p q) q
+value_in h leg i j p q = pos 16777216 *ℤ coordinate leg.start.z leg.end.z p q *ℤ q -ℤ surface h i j (into_x leg i p q) (into_y leg j p q) q
 
 -- F(p, q): the value by the formula of the cell at the place
 unfoldable pub value : (ℕ → ℕ → ℤ) → Leg → (p q : ℤ) → ℤ
@@ -77,8 +77,8 @@ greatest_step h =
 -- L, where no step of the lattice is larger than D: 2^24 |dz| + 3 · 2^18 D (|dx| + |dy|)
 unfoldable pub steepness : (D : ℤ) → Leg → ℤ
 steepness D leg =
-    pos 16777216 *ℤ absℤ (leg.z2 -ℤ leg.z1)
-    +ℤ pos 786432 *ℤ D *ℤ (absℤ (leg.x2 -ℤ leg.x1) +ℤ absℤ (leg.y2 -ℤ leg.y1))
+    pos 16777216 *ℤ absℤ (leg.end.z -ℤ leg.start.z)
+    +ℤ pos 786432 *ℤ D *ℤ (absℤ (leg.end.x -ℤ leg.start.x) +ℤ absℤ (leg.end.y -ℤ leg.start.y))
 
 -- R
 abbrev pub reach : ℤ
@@ -97,10 +97,10 @@ in_cell w i u = int_le (pos 0) (into w i u) && int_le (into w i u) w
 -- both ends of the piece lie in the closed cell of its middle
 unfoldable pub lies_in_one_cell : Leg → (m r : ℤ) → Bool
 lies_in_one_cell leg m r =
-    (in_cell (width (pos 1)) (cell_x leg m (pos 1)) (from_edge leg.x1 leg.x2 (m -ℤ r) (pos 1))
-    && in_cell (width (pos 1)) (cell_x leg m (pos 1)) (from_edge leg.x1 leg.x2 (m +ℤ r) (pos 1)))
-    && (in_cell (width (pos 1)) (cell_y leg m (pos 1)) (from_edge leg.y1 leg.y2 (m -ℤ r) (pos 1))
-    && in_cell (width (pos 1)) (cell_y leg m (pos 1)) (from_edge leg.y1 leg.y2 (m +ℤ r) (pos 1)))
+    (in_cell (width (pos 1)) (cell_x leg m (pos 1)) (from_edge leg.start.x leg.end.x (m -ℤ r) (pos 1))
+    && in_cell (width (pos 1)) (cell_x leg m (pos 1)) (from_edge leg.start.x leg.end.x (m +ℤ r) (pos 1)))
+    && (in_cell (width (pos 1)) (cell_y leg m (pos 1)) (from_edge leg.start.y leg.end.y (m -ℤ r) (pos 1))
+    && in_cell (width (pos 1)) (cell_y leg m (pos 1)) (from_edge leg.start.y leg.end.y (m +ℤ r) (pos 1)))
 
 -- the formula of `surface` in forms
 abbrev pub surface_form : (ℕ → ℕ → ℤ) → (i j : ℕ) → (f g : Form) → Form
@@ -112,8 +112,8 @@ surface_form h i j f g =
 -- the formula of `value_in` in forms
 abbrev pub form_in : (ℕ → ℕ → ℤ) → Leg → (i j : ℕ) → (m r : ℤ) → Form
 form_in h leg i j m r =
-    sum_of (scaled_by (pos 16777216) (even (coordinate leg.z1 leg.z2 m (pos 1)) ((leg.z2 -ℤ leg.z1) *ℤ r)))
-    (opposite_of (surface_form h i j (even (into_x leg i m (pos 1)) ((leg.x2 -ℤ leg.x1) *ℤ r)) (even (into_y leg j m (pos 1)) ((leg.y2 -ℤ leg.y1) *ℤ r))))
+    sum_of (scaled_by (pos 16777216) (even (coordinate leg.start.z leg.end.z m (pos 1)) ((leg.end.z -ℤ leg.start.z) *ℤ r)))
+    (opposite_of (surface_form h i j (even (into_x leg i m (pos 1)) ((leg.end.x -ℤ leg.start.x) *ℤ r)) (even (into_y leg j m (pos 1)) ((leg.end.y -ℤ leg.start.y) *ℤ r))))
 
 -- all values within L r of the one at the middle
 abbrev pub wide_form : (ℕ → ℕ → ℤ) → (D : ℤ) → Leg → (m r : ℤ) → Form

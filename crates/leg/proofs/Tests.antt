@@ -3,6 +3,7 @@ use Rattle.std.proofs.Common.{◌≡◌, Bool, true, false, ◌&&◌, ℤ, pos, 
 use lib.Signed.{le_z}
 use borrow.Author.Differences.{ints}
 use Rattle.std.proofs.lemmas.Bool.{and_parts, and_from, both_ways}
+use Rattle.leg.specs.declared.shapes.Point.{Point}
 use Rattle.leg.specs.Ranges.{InRange, Apart}
 use Rattle.leg.specs.Making.{is_between, point_on_map, is_same, is_same_point}
 
@@ -10,18 +11,17 @@ use Rattle.leg.specs.Making.{is_between, point_on_map, is_same, is_same_point}
 pub and_second : (a b r s : Bool) → r ≡ true → r ≡ a → s ≡ b → s ≡ (a && b)
 and_second a b r s t e f = rw (sym e ∙ t) f
 
-pub lies_in_range : (x y z : ℤ) → point_on_map x y z ≡ true → InRange x y z
-lies_in_range x y z t =
-    let a = and_parts (is_between (negsuc 4095) x (pos 4096)) _ t in
-    let b = and_parts (is_between (negsuc 4095) y (pos 4096)) (is_between (negsuc 15) z (pos 660)) a.1 in
-    let xs = and_parts (le_z (negsuc 4095) x) (le_z x (pos 4096)) a.0 in
-    let ys = and_parts (le_z (negsuc 4095) y) (le_z y (pos 4096)) b.0 in
-    let zs = and_parts (le_z (negsuc 15) z) (le_z z (pos 660)) b.1 in
+pub lies_in_range : (p : Point) → point_on_map p ≡ true → InRange p
+lies_in_range p t =
+    let a = and_parts (is_between (negsuc 4095) p.x (pos 4096)) _ t in
+    let b = and_parts (is_between (negsuc 4095) p.y (pos 4096)) (is_between (negsuc 15) p.z (pos 660)) a.1 in
+    let xs = and_parts (le_z (negsuc 4095) p.x) (le_z p.x (pos 4096)) a.0 in
+    let ys = and_parts (le_z (negsuc 4095) p.y) (le_z p.y (pos 4096)) b.0 in
+    let zs = and_parts (le_z (negsuc 15) p.z) (le_z p.z (pos 660)) b.1 in
     (omega (arith, ints), omega (arith, ints), omega (arith, ints), omega (arith, ints))
 
-pub apart : (x1 y1 z1 x2 y2 z2 : ℤ) → is_same_point x1 y1 z1 x2 y2 z2 ≡ false → Apart x1 y1 z1 x2 y2 z2
-apart x1 y1 z1 x2 y2 z2 t ex ey ez =
-    both_ways (is_same_point x1 y1 z1 x2 y2 z2) t (and_from _ _ (and_from _ _ (equals x1 x2 ex) (equals y1 y2 ey)) (equals z1 z2 ez))
+pub apart : (a b : Point) → is_same_point a b ≡ false → Apart a b
+apart a b t ex ey ez = both_ways (is_same_point a b) t (and_from _ _ (and_from _ _ (equals a.x b.x ex) (equals a.y b.y ey)) (equals a.z b.z ez))
   where
     equals : (a b : ℤ) → a ≡ b → is_same a b ≡ true
     equals a b e = and_from (le_z a b) (le_z b a) (grind (arith, ints)) (grind (arith, ints))

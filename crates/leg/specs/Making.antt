@@ -1,35 +1,43 @@
 -- Which numbers make a leg, a half-step and a piece, and which number sends others back.
-use Rattle.std.specs.Prelude.{◌≡◌, ℕ, ◌+◌, ◌*◌, ◌%◌, ◌^◌, ◌<◌, ◌≤◌, Bool, cond, ◌&&◌, ℤ, pos, negsuc, ◌≤ℤ◌, ◌==◌, int_le}
+use Rattle.std.specs.Prelude.{◌≡◌, ℕ, ◌+◌, ◌*◌, ◌%◌, ◌^◌, ◌<◌, ◌≤◌, Bool, cond, ◌&&◌, ℤ, pos, negsuc, ◌≤ℤ◌, ◌==◌, int_le, Result, MatchResult}
+use Rattle.refusal.specs.declared.Refusal.{Refusal}
+use Rattle.refusal.specs.Numbers.{number_of}
+use Rattle.leg.specs.declared.shapes.Point.{Point}
 use Rattle.leg.specs.declared.shapes.Leg.{Leg}
+use Rattle.leg.specs.declared.shapes.HalfStep.{HalfStep}
 
 -- low ≤ x ≤ high
 abbrev pub is_between : ℤ → ℤ → ℤ → Bool
 is_between low x high = int_le low x && int_le x high
 
 -- a point of the map: x and y from -4096 to 4096, z from -16 to 660
-abbrev pub point_on_map : ℤ → ℤ → ℤ → Bool
-point_on_map x y z = is_between (negsuc 4095) x (pos 4096) && (is_between (negsuc 4095) y (pos 4096) && is_between (negsuc 15) z (pos 660))
+abbrev pub point_on_map : Point → Bool
+point_on_map p = is_between (negsuc 4095) p.x (pos 4096) && (is_between (negsuc 4095) p.y (pos 4096) && is_between (negsuc 15) p.z (pos 660))
 
-abbrev pub points_on_map : ℤ → ℤ → ℤ → ℤ → ℤ → ℤ → Bool
-points_on_map x1 y1 z1 x2 y2 z2 = point_on_map x1 y1 z1 && point_on_map x2 y2 z2
+abbrev pub points_on_map : Point → Point → Bool
+points_on_map a b = point_on_map a && point_on_map b
 
 abbrev pub is_same : ℤ → ℤ → Bool
 is_same a b = int_le a b && int_le b a
 
-abbrev pub is_same_point : ℤ → ℤ → ℤ → ℤ → ℤ → ℤ → Bool
-is_same_point x1 y1 z1 x2 y2 z2 = (is_same x1 x2 && is_same y1 y2) && is_same z1 z2
+abbrev pub is_same_point : Point → Point → Bool
+is_same_point a b = (is_same a.x b.x && is_same a.y b.y) && is_same a.z b.z
 
 -- the number of the first refusal that fits a leg, or 0: 19 for a coordinate outside its range, 20 for a start that is the end
-abbrev pub leg_refusal : ℤ → ℤ → ℤ → ℤ → ℤ → ℤ → ℕ
-leg_refusal x1 y1 z1 x2 y2 z2 = cond (points_on_map x1 y1 z1 x2 y2 z2) (cond (is_same_point x1 y1 z1 x2 y2 z2) 20 0) 19
+abbrev pub leg_refusal : Point → Point → ℕ
+leg_refusal start end = cond (points_on_map start end) (cond (is_same_point start end) 20 0) 19
 
--- the leg has these coordinates
-abbrev pub Joins : Leg → ℤ → ℤ → ℤ → ℤ → ℤ → ℤ → Type 0
-Joins leg x1 y1 z1 x2 y2 z2 = (leg.x1 ≡ x1) × (leg.y1 ≡ y1) × (leg.z1 ≡ z1) × (leg.x2 ≡ x2) × (leg.y2 ≡ y2) × (leg.z2 ≡ z2)
+-- the leg has these ends
+abbrev pub Joins : Leg → Point → Point → Type 0
+Joins leg start end = (leg.start ≡ start) × (leg.end ≡ end)
 
 -- a half-step of a leg, from 0 to 4096
 abbrev pub Step : ℤ → Type 0
 Step at = (pos 0 ≤ℤ at) × (at ≤ℤ pos 4096)
+
+-- what is answered to the number of a half-step: 24 for one that is none
+abbrev pub MakesStep : ℤ → Result HalfStep Refusal → Type 0
+MakesStep at r = MatchResult r (λ s. Step at × (pos s.at ≡ at)) (λ e. (number_of e ≡ 24) × (Step at → ⊥))
 
 -- the bounds of a piece's middle and half-width
 abbrev pub lies_in_bounds : ℤ → ℤ → Bool

@@ -24,10 +24,10 @@ coordinate a b p q = pos 4096 *ℤ a *ℤ q +ℤ (b -ℤ a) *ℤ p
 
 -- the scaled coordinates of a leg at p, q lie in the scaled ranges: 4096 · 4096 = 2^24, 4096 · 16 = 65536 and 4096 · 660 = 2703360
 pub record CoordinatesWithin (leg : Leg) (p q : ℤ) : Type 0 where
-  pub x : Within (coordinate leg.x1 leg.x2 p q) (pos 16777216 *ℤ q)
-  pub y : Within (coordinate leg.y1 leg.y2 p q) (pos 16777216 *ℤ q)
-  pub z_from : (negsuc 65535 *ℤ q) ≤ℤ coordinate leg.z1 leg.z2 p q
-  pub z_to : coordinate leg.z1 leg.z2 p q ≤ℤ (pos 2703360 *ℤ q)
+  pub x : Within (coordinate leg.start.x leg.end.x p q) (pos 16777216 *ℤ q)
+  pub y : Within (coordinate leg.start.y leg.end.y p q) (pos 16777216 *ℤ q)
+  pub z_from : (negsuc 65535 *ℤ q) ≤ℤ coordinate leg.start.z leg.end.z p q
+  pub z_to : coordinate leg.start.z leg.end.z p q ≤ℤ (pos 2703360 *ℤ q)
 
 -- p, q is a place of this piece
 abbrev pub On : Piece → ℤ → ℤ → Type 0

@@ -1,17 +1,16 @@
-// Pieces from any numbers, their halves, and the numbers of the finest.
-ghost use Rattle.std.specs.Prelude.{◌≡◌, ◌+◌, ◌-◌, ◌*◌, ◌/◌, ◌<◌, ◌≤◌, ℤ, pos, IfOk, MatchOption, MatchResult};
+// Pieces from any numbers, their halves and half-steps, and the numbers of the finest.
+ghost use Rattle.std.specs.Prelude.{◌≡◌, ◌+◌, ◌-◌, ◌*◌, ◌/◌, ◌<◌, ◌≤◌, ℤ, pos, ◌+ℤ◌, ◌-ℤ◌, IfOk, MatchOption, MatchResult};
 ghost use Rattle.refusal.specs.Numbers.{number_of};
 ghost use Rattle.leg.specs.Making.{lies_in_bounds, makes_piece, Shaped};
 ghost use Rattle.leg.specs.Places.{OnLeg, On, Halved};
 
-use crate::making::between;
-use crate::shapes::{Halves, Piece};
+use crate::shapes::{HalfStep, Halves, Piece};
 use refusal::Refusal;
 
 fn in_bounds(middle: i64, half: i64) -> bool
     ensures { result ≡ lies_in_bounds middle half }
 {
-    between(1, half, 2048) && between(1, middle, 4095)
+    (1..=2048).contains(&half) && (1..=4095).contains(&middle)
 }
 
 fn is_piece(middle: u16, half: u16) -> bool
@@ -50,6 +49,31 @@ impl Piece {
         }
     }
 
+    // The half-step at which the piece begins.
+    pub fn first_step(self) -> HalfStep
+        ensures { pos result.at ≡ pos self.middle -ℤ pos self.half }
+    {
+        HalfStep {
+            at: self.middle - self.half,
+        }
+    }
+
+    // The half-step in its middle.
+    pub fn middle_step(self) -> HalfStep
+        ensures { result.at ≡ self.middle }
+    {
+        HalfStep { at: self.middle }
+    }
+
+    // The half-step at which it ends.
+    pub fn last_step(self) -> HalfStep
+        ensures { pos result.at ≡ pos self.middle +ℤ pos self.half }
+    {
+        HalfStep {
+            at: self.middle + self.half,
+        }
+    }
+
     // The two halves, unless the piece is finest.
     pub fn halves(self) -> Option<Halves>
         ensures { MatchOption result (self.half ≡ 1) (λ parts. Halved self parts) }
@@ -73,10 +97,6 @@ impl Piece {
     pub fn number(self) -> Option<u16>
         ensures { MatchOption result (1 < self.half) (λ n. (self.half ≡ 1) × (n ≡ (self.middle - 1) / 2) × (self.middle ≡ 2 * n + 1) × (n < 2048)) }
     {
-        if self.half == 1 {
-            Some((self.middle - 1) / 2)
-        } else {
-            None
-        }
+        (self.half == 1).then_some((self.middle - 1) / 2)
     }
 }

@@ -4,6 +4,7 @@ use mathlib.Core.HLevel.{is_prop→PathP, ⊥_prop, Π_prop}
 use native.Mathlib.Bridge.{le_prop}
 use lib.Dec.{T_prop}
 use lib.Signed.{le_z}
+use Rattle.leg.specs.declared.shapes.Point.{Point}
 use Rattle.leg.specs.declared.shapes.Leg.{Leg}
 use Rattle.leg.specs.Ranges.{InRange, Apart}
 use Rattle.leg.specs.Making.{points_on_map, is_same_point, leg_refusal, Joins}
@@ -13,28 +14,24 @@ use Rattle.leg_check.specs.Judging.{Judged}
 use Rattle.leg_check.specs.Outcome.{leg_where, outcome_by, outcome_of}
 use Rattle.leg_check.proofs.Judging.{shown}
 
--- ---- a leg is its six coordinates
+-- ---- a leg is its ends
 
 ≤ℤ_prop : {a b : ℤ} → IsProp (a ≤ℤ b)
 ≤ℤ_prop {a} {b} h k = λ i. record { le = T_prop (le_z a b) h.le k.le i }
 
-in_range_prop : (x y z : ℤ) → IsProp (InRange x y z)
-in_range_prop x y z u v = λ i. (le_prop u.0 v.0 i, le_prop u.1 v.1 i, ≤ℤ_prop u.2 v.2 i, ≤ℤ_prop u.3 v.3 i)
+in_range_prop : (p : Point) → IsProp (InRange p)
+in_range_prop p u v = λ i. (le_prop u.0 v.0 i, le_prop u.1 v.1 i, ≤ℤ_prop u.2 v.2 i, ≤ℤ_prop u.3 v.3 i)
 
-apart_prop : (x1 y1 z1 x2 y2 z2 : ℤ) → IsProp (Apart x1 y1 z1 x2 y2 z2)
-apart_prop x1 y1 z1 x2 y2 z2 = Π_prop (λ _. Π_prop (λ _. Π_prop (λ _. ⊥_prop)))
+apart_prop : (a b : Point) → IsProp (Apart a b)
+apart_prop a b = Π_prop (λ _. Π_prop (λ _. Π_prop (λ _. ⊥_prop)))
 
-same_leg : (a b : Leg) → Joins a b.x1 b.y1 b.z1 b.x2 b.y2 b.z2 → a ≡ b
+same_leg : (a b : Leg) → Joins a b.start b.end → a ≡ b
 same_leg a b j = λ i. record {
-  x1 = j.0 i;
-  y1 = j.1 i;
-  z1 = j.2 i;
-  x2 = j.3 i;
-  y2 = j.4 i;
-  z2 = j.5 i;
-  start = is_prop→PathP (λ k. InRange (j.0 k) (j.1 k) (j.2 k)) (λ k. in_range_prop (j.0 k) (j.1 k) (j.2 k)) a.start b.start i;
-  end = is_prop→PathP (λ k. InRange (j.3 k) (j.4 k) (j.5 k)) (λ k. in_range_prop (j.3 k) (j.4 k) (j.5 k)) a.end b.end i;
-  apart = is_prop→PathP (λ k. Apart (j.0 k) (j.1 k) (j.2 k) (j.3 k) (j.4 k) (j.5 k)) (λ k. apart_prop (j.0 k) (j.1 k) (j.2 k) (j.3 k) (j.4 k) (j.5 k)) a.apart b.apart i;
+  start = j.0 i;
+  end = j.1 i;
+  start_on_map = is_prop→PathP (λ k. InRange (j.0 k)) (λ k. in_range_prop (j.0 k)) a.start_on_map b.start_on_map i;
+  end_on_map = is_prop→PathP (λ k. InRange (j.1 k)) (λ k. in_range_prop (j.1 k)) a.end_on_map b.end_on_map i;
+  apart = is_prop→PathP (λ k. Apart (j.0 k) (j.1 k)) (λ k. apart_prop (j.0 k) (j.1 k)) a.apart b.apart i;
 }
 
 -- ---- outcomes are told apart
@@ -48,41 +45,41 @@ same_number d = cc
 no_verdict : {n : ℕ} {b : Verdict} → ◌≡◌ {A = Result Verdict ℕ} (Err n) (Ok b) → ⊥
 no_verdict d = let z : ◌≡◌ {A = ℕ} 0 1 = cc in omega arith
 
-module _ (x1 y1 z1 x2 y2 z2 : ℤ) where
+module _ (start end : Point) where
   -- where no refusal fits the leg is there
-  leg_by : (on : Bool) (o : points_on_map x1 y1 z1 x2 y2 z2 ≡ on) (same : Bool) (s : is_same_point x1 y1 z1 x2 y2 z2 ≡ same) → ◌≡◌ {A = ℕ} (cond on (cond same 20 0) 19) 0 →
-      (leg : Leg) → Joins leg x1 y1 z1 x2 y2 z2 → leg_where x1 y1 z1 x2 y2 z2 on o same s ≡ Some leg
+  leg_by : (on : Bool) (o : points_on_map start end ≡ on) (same : Bool) (s : is_same_point start end ≡ same) → ◌≡◌ {A = ℕ} (cond on (cond same 20 0) 19) 0 →
+      (leg : Leg) → Joins leg start end → leg_where start end on o same s ≡ Some leg
   leg_by true o false s e leg j = ap Some (sym (same_leg leg _ j))
   leg_by true o true s e leg j = absurd (omega arith)
   leg_by false o same s e leg j = absurd (omega arith)
 
-  no_leg_by : (on : Bool) (o : points_on_map x1 y1 z1 x2 y2 z2 ≡ on) (same : Bool) (s : is_same_point x1 y1 z1 x2 y2 z2 ≡ same) → 1 ≤ cond on (cond same 20 0) 19 →
-      leg_where x1 y1 z1 x2 y2 z2 on o same s ≡ None
+  no_leg_by : (on : Bool) (o : points_on_map start end ≡ on) (same : Bool) (s : is_same_point start end ≡ same) → 1 ≤ cond on (cond same 20 0) 19 →
+      leg_where start end on o same s ≡ None
   no_leg_by true o false s e = absurd (omega arith)
   no_leg_by true o true s e = refl
   no_leg_by false o same s e = refl
 
-  pub judged_outcome : (field : Meaning) (v : Verdict) → Judged field x1 y1 z1 x2 y2 z2 v → outcome_of x1 y1 z1 x2 y2 z2 field ≡ Ok v
+  pub judged_outcome : (field : Meaning) (v : Verdict) → Judged field start end v → outcome_of start end field ≡ Ok v
   judged_outcome field v judged =
-      ap (outcome_by x1 y1 z1 x2 y2 z2 field) (leg_by _ refl _ refl judged.taken judged.leg judged.joins) ∙ ap Ok (sym judged.exact)
+      ap (outcome_by start end field) (leg_by _ refl _ refl judged.taken judged.leg judged.joins) ∙ ap Ok (sym judged.exact)
 
-  pub refused_outcome : (field : Meaning) → 1 ≤ leg_refusal x1 y1 z1 x2 y2 z2 → outcome_of x1 y1 z1 x2 y2 z2 field ≡ Err (leg_refusal x1 y1 z1 x2 y2 z2)
-  refused_outcome field refused = ap (outcome_by x1 y1 z1 x2 y2 z2 field) (no_leg_by _ refl _ refl refused)
+  pub refused_outcome : (field : Meaning) → 1 ≤ leg_refusal start end → outcome_of start end field ≡ Err (leg_refusal start end)
+  refused_outcome field refused = ap (outcome_by start end field) (no_leg_by _ refl _ refl refused)
 
   -- ---- and back: what the outcome is decides what is shown of it
 
-  taken_by : points_on_map x1 y1 z1 x2 y2 z2 ≡ true → is_same_point x1 y1 z1 x2 y2 z2 ≡ false → leg_refusal x1 y1 z1 x2 y2 z2 ≡ 0
+  taken_by : points_on_map start end ≡ true → is_same_point start end ≡ false → leg_refusal start end ≡ 0
   taken_by o s = λ i. cond (o i) (cond (s i) 20 0) 19
 
   module _ (field : Meaning) (laws : Laws field) where
-    judged_by : (on : Bool) (o : points_on_map x1 y1 z1 x2 y2 z2 ≡ on) (same : Bool) (s : is_same_point x1 y1 z1 x2 y2 z2 ≡ same) (v : Verdict) →
-        outcome_by x1 y1 z1 x2 y2 z2 field (leg_where x1 y1 z1 x2 y2 z2 on o same s) ≡ Ok v → Judged field x1 y1 z1 x2 y2 z2 v
+    judged_by : (on : Bool) (o : points_on_map start end ≡ on) (same : Bool) (s : is_same_point start end ≡ same) (v : Verdict) →
+        outcome_by start end field (leg_where start end on o same s) ≡ Ok v → Judged field start end v
     judged_by true o false s v e =
         let all = shown field _ laws (same_verdict e) in
         record {
           taken = taken_by o s;
-          leg = record { x1 = x1; y1 = y1; z1 = z1; x2 = x2; y2 = y2; z2 = z2; start = _; end = _; apart = _ };
-          joins = (refl, refl, refl, refl, refl, refl);
+          leg = record { start = start; end = end; start_on_map = _; end_on_map = _; apart = _ };
+          joins = (refl, refl);
           exact = all.exact;
           relation = all.relation;
           promise = all.promise;
@@ -90,12 +87,12 @@ module _ (x1 y1 z1 x2 y2 z2 : ℤ) where
     judged_by true o true s v e = absurd (no_verdict e)
     judged_by false o same s v e = absurd (no_verdict e)
 
-    pub outcome_judged : (v : Verdict) → outcome_of x1 y1 z1 x2 y2 z2 field ≡ Ok v → Judged field x1 y1 z1 x2 y2 z2 v
+    pub outcome_judged : (v : Verdict) → outcome_of start end field ≡ Ok v → Judged field start end v
     outcome_judged v e = judged_by _ refl _ refl v e
 
   -- a refusal is that of the leg
   module _ (field : Meaning) where
-    refused_by : (leg : Option Leg) (n : ℕ) → outcome_by x1 y1 z1 x2 y2 z2 field leg ≡ Err n → n ≡ leg_refusal x1 y1 z1 x2 y2 z2
+    refused_by : (leg : Option Leg) (n : ℕ) → outcome_by start end field leg ≡ Err n → n ≡ leg_refusal start end
     refused_by (Some leg) n e = absurd (no_verdict (sym e))
     refused_by None n e = same_number e
 
@@ -104,5 +101,5 @@ module _ (x1 y1 z1 x2 y2 z2 : ℤ) where
     leg_numbers true false = omega arith
     leg_numbers false same = omega arith
 
-    pub outcome_refused : (n : ℕ) → outcome_of x1 y1 z1 x2 y2 z2 field ≡ Err n → n ≤ 20
-    outcome_refused n e = subst (λ (k : ℕ). k ≤ 20) (sym (refused_by _ n e)) (leg_numbers (points_on_map x1 y1 z1 x2 y2 z2) (is_same_point x1 y1 z1 x2 y2 z2))
+    pub outcome_refused : (n : ℕ) → outcome_of start end field ≡ Err n → n ≤ 20
+    outcome_refused n e = subst (λ (k : ℕ). k ≤ 20) (sym (refused_by _ n e)) (leg_numbers (points_on_map start end) (is_same_point start end))

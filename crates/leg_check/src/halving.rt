@@ -10,7 +10,7 @@ ghost use Rattle.leg_check.specs.Judging.{Judged};
 
 use crate::verdict::{Verdict, Walk};
 use field::Field;
-use leg::{HalfStep, Halves, Leg, Piece};
+use leg::{HalfStep, Halves, Leg, Piece, Point};
 use refusal::Refusal;
 
 fn above_zero(x: i64) -> bool
@@ -94,20 +94,12 @@ fn judge<F: Field>(field: &F, leg: &Leg) -> Verdict
     }
 }
 
-// The check of the leg from (x1, y1, z1) to (x2, y2, z2).
-pub fn check<F: Field>(
-    field: &F,
-    x1: i64,
-    y1: i64,
-    z1: i64,
-    x2: i64,
-    y2: i64,
-    z2: i64,
-) -> Result<Verdict, Refusal>
+// The check of the leg from one point to another.
+pub fn check<F: Field>(field: &F, start: Point, end: Point) -> Result<Verdict, Refusal>
     requires { F.lawful field.now }
-    ensures { MatchResult result (λ v. Judged (F.meaning field.now) x1 y1 z1 x2 y2 z2 v) (λ e. number_of e ≡ leg_refusal x1 y1 z1 x2 y2 z2) }
+    ensures { MatchResult result (λ v. Judged (F.meaning field.now) start end v) (λ e. number_of e ≡ leg_refusal start end) }
 {
-    let leg = Leg::new(x1, y1, z1, x2, y2, z2)?;
+    let leg = Leg::new(start, end)?;
     Ok(judge(field, &leg))
 }
 

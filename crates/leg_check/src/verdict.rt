@@ -11,7 +11,7 @@ pub enum Verdict {
     Near { piece: u16, bounds: u16 },
 }
 
-// What came of examining a piece.
+// What came of examining a piece. Both ways carry the bounds taken, and a stop is no error: a `Result` would need the bounds so far added at each `?`, and be no plainer.
 #[derive(Clone, Copy)]
 pub(crate) enum Walk {
     Cleared { bounds: u16 },

@@ -1,4 +1,3 @@
-mod Fields
 mod Scaling
 mod Printing
 mod RowSteps

@@ -1,14 +1,15 @@
 -- What a check answers can be printed.
-use Rattle.std.proofs.Common.{◌≡◌, ℕ, zero, suc, ◌<◌, ◌≤◌, List, ℤ, pos, negsuc, nat_abs, ◌≤ℤ◌, sym, refl, subst, arith}
+use Rattle.std.proofs.Common.{◌≡◌, ℕ, zero, suc, ◌<◌, ◌≤◌, List, ℤ, pos, negsuc, nat_abs, ◌≤ℤ◌, sym, refl, ap, subst, arith}
 use borrow.Author.Differences.{ints}
 use Rattle.integer.specs.Numbers.{Within}
 use Rattle.integer.proofs.Absolute.{within_from}
+use Rattle.leg.specs.declared.shapes.Point.{Point}
 use Rattle.leg_check.specs.Promise.{Row, Promise}
 use Rattle.leg_check.specs.Relation.{Relation}
 use Rattle.sheet.specs.Calls.{SheetData}
 use Rattle.sheet.specs.Answers.{Answer, taken, refused, checked}
 use Rattle.sheet.specs.Kept.{Joint, Shown, Kept}
-use Rattle.listing.specs.Rows.{column, OnMap, Printable}
+use Rattle.listing.specs.Rows.{start_of, end_of, OnMap, Printable}
 
 small : (x y : ℤ) → x ≡ y → nat_abs x ≤ 4096 → Within y (pos 4096)
 small x y e h = subst (λ (z : ℤ). Within z (pos 4096)) e (within_from x (pos 4096) (omega (arith, ints)) (omega (arith, ints)))
@@ -31,19 +32,19 @@ piece_small F L cleared row p r = by_answer row.answer refl
     by_answer (suc (suc (suc (suc n)))) e = let few = p.one_of_four in absurd (omega arith)
 
 module _ (joint : Joint) (sheet : SheetData) (row : List ℤ) where
-  shown_on_map : (r : Row) → Shown joint sheet (column row 0) (column row 1) (column row 2) (column row 3) (column row 4) (column row 5) r → OnMap row
+  shown_on_map : (r : Row) → Shown joint sheet (start_of row) (end_of row) r → OnMap row
   shown_on_map r s =
-      let j = s.joins in let a = s.leg.start in let b = s.leg.end in
+      let j = s.joins in let a = s.leg.start_on_map in let b = s.leg.end_on_map in
       record {
-        x1_in = small _ _ j.0 a.0;
-        y1_in = small _ _ j.1 a.1;
-        z1_in = level _ _ j.2 a.2 a.3;
-        x2_in = small _ _ j.3 b.0;
-        y2_in = small _ _ j.4 b.1;
-        z2_in = level _ _ j.5 b.2 b.3;
+        x1_in = small _ _ (ap (λ (p : Point). p.x) j.0) a.0;
+        y1_in = small _ _ (ap (λ (p : Point). p.y) j.0) a.1;
+        z1_in = level _ _ (ap (λ (p : Point). p.z) j.0) a.2 a.3;
+        x2_in = small _ _ (ap (λ (p : Point). p.x) j.1) b.0;
+        y2_in = small _ _ (ap (λ (p : Point). p.y) j.1) b.1;
+        z2_in = level _ _ (ap (λ (p : Point). p.z) j.1) b.2 b.3;
       }
 
-  pub printable_of : (answer : Answer) → Kept joint sheet (column row 0) (column row 1) (column row 2) (column row 3) (column row 4) (column row 5) answer → Printable row answer
+  pub printable_of : (answer : Answer) → Kept joint sheet (start_of row) (end_of row) answer → Printable row answer
   printable_of (checked r) kept =
       let s = kept.verdict r refl in
       (shown_on_map r s, piece_small _ _ _ r s.promise s.relation)

@@ -1,23 +1,37 @@
 -- The rows of the listing.
-use Rattle.std.specs.Prelude.{ℕ, ◌+◌, ◌≤◌, cond, List, [], ◌∷◌, ◌++◌, map, ℤ, pos, ◌==◌, slice_index_or, unsigned_abs}
+use Rattle.std.specs.Prelude.{◌≡◌, ℕ, ◌+◌, ◌≤◌, cond, List, [], ◌∷◌, ◌++◌, map, ℤ, pos, ◌==◌, slice_index_or, unsigned_abs}
 use Rattle.std.specs.Fmt.{signed_decimal}
 use Rattle.integer.specs.Numbers.{Within}
+use Rattle.leg.specs.declared.shapes.Point.{Point}
 use Rattle.sheet.specs.Calls.{SheetData}
 use Rattle.sheet.specs.Answers.{Answer, taken, refused, checked}
 use Rattle.sheet.specs.Kept.{Joint, check_answer, Kept}
-use Rattle.listing.specs.Lines.{spaced}
+use Rattle.files.specs.Lines.{spaced}
+use Rattle.listing.specs.declared.rows.Row.{Row}
+use Rattle.listing.specs.declared.rows.Answer.{Answer as Kind}
+use Rattle.listing.specs.declared.rows.Answer.TheVariants.{Clear, Inside, Entered, Near, Refused}
 use Rattle.listing.specs.Positions.{scaled_at, rounded}
 
 abbrev pub column : List ℤ → ℕ → ℤ
 column row k = slice_index_or row k (pos 0)
 
+-- the ends of the leg that a row of the legs table says
+abbrev pub start_of : List ℤ → Point
+start_of row = record { x = column row 0; y = column row 1; z = column row 2 }
+
+abbrev pub end_of : List ℤ → Point
+end_of row = record { x = column row 3; y = column row 4; z = column row 5 }
+
 -- the check of a row of the legs table
 abbrev pub answer_to : Joint → SheetData → List ℤ → Answer
-answer_to joint sheet row = check_answer joint sheet (column row 0) (column row 1) (column row 2) (column row 3) (column row 4) (column row 5)
+answer_to joint sheet row = check_answer joint sheet (start_of row) (end_of row)
 
 -- it keeps the promise of the check
+abbrev pub KeptBy : Joint → SheetData → List ℤ → Answer → Type 0
+KeptBy joint sheet row answer = Kept joint sheet (start_of row) (end_of row) answer
+
 abbrev pub KeptRow : Joint → SheetData → List ℤ → Type 0
-KeptRow joint sheet row = Kept joint sheet (column row 0) (column row 1) (column row 2) (column row 3) (column row 4) (column row 5) (answer_to joint sheet row)
+KeptRow joint sheet row = KeptBy joint sheet row (answer_to joint sheet row)
 
 -- the coordinate printed for an answer on a leg on which it goes from a to b: the end for clear, the start for inside, else the start of the piece, rounded
 abbrev pub printed_at : ℕ → ℤ → (a b : ℤ) → ℤ
@@ -34,6 +48,18 @@ numbers_of_row number row (checked r) =
 numbers_of_row number row (refused n) = pos number ∷ pos 4 ∷ pos n ∷ pos 0 ∷ pos 0 ∷ pos 0 ∷ pos 0 ∷ []
 -- no check is answered so
 numbers_of_row number row (taken n) = []
+
+-- the answers by their numbers
+abbrev pub answer_number : Kind → ℕ
+answer_number Clear = 0
+answer_number Inside = 1
+answer_number Entered = 2
+answer_number Near = 3
+answer_number Refused = 4
+
+-- these are the numbers of the code's row
+abbrev pub Shows : List ℤ → Row → Type 0
+Shows numbers row = numbers ≡ pos row.leg ∷ pos (answer_number row.answer) ∷ row.piece ∷ pos row.bounds ∷ column row.at 0 ∷ column row.at 1 ∷ column row.at 2 ∷ []
 
 abbrev pub row_text : Joint → SheetData → ℕ → List ℤ → List ℕ
 row_text joint sheet number row = spaced (map signed_decimal (numbers_of_row number row (answer_to joint sheet row)))

@@ -24,7 +24,9 @@ pub(crate) fn rounded(n: i64) -> i64
 
 // The coordinate at the start of a piece of a leg on which it goes from `a` to `b`, rounded.
 pub(crate) fn position_at(a: i64, b: i64, piece: u16) -> i64
-    requires { (Within a (pos 4096)) × ((Within b (pos 4096)) × (piece ≤ 2048)) }
+    requires a_in { Within a (pos 4096) }
+    requires b_in { Within b (pos 4096) }
+    requires piece_in { piece ≤ 2048 }
     ensures { result ≡ rounded_of (scaled_at a b piece) }
 {
     rounded(2048 * a + (b - a) * i64::from(piece))

@@ -1,9 +1,12 @@
 -- The sheet that two tables of text load: each row is a call, made before the next line is looked at.
 use Rattle.std.specs.Prelude.{ℕ, ◌+◌, cond, List, [], ◌∷◌, ◌++◌, map, ℤ, pos, Some, None, Ok, Err, Option, Result, ◌==◌, slice_index_or}
 use Rattle.refusal.specs.declared.Fault.{Fault}
-use Rattle.refusal.specs.Numbers.{fault}
+use Rattle.refusal.specs.Numbers.{refusal_of, fault}
 use Rattle.table.specs.declared.table.Table.TheVariants.{Nodes, Areas}
 use Rattle.table.specs.Reading.{Reading, reading}
+use Rattle.files.specs.declared.file.File.{File}
+use Rattle.files.specs.declared.file.File.TheVariants as files
+use Rattle.files.specs.declared.file.FileFault.{FileFault}
 use Rattle.nodes.specs.declared.node.Node.{Node}
 use Rattle.sheet.specs.declared.call.Call.{Call}
 use Rattle.sheet.specs.declared.call.Call.TheVariants.{Add, Publish}
@@ -47,7 +50,7 @@ abbrev pub rows_loaded : (List ℤ → Call) → SheetData → ℕ → List (Lis
 rows_loaded call sheet n [] None = Ok sheet
 rows_loaded call sheet n [] (Some f) = Err f
 rows_loaded call sheet n (row ∷ rows) stop =
-    cond (call_refusal sheet (call row) == 0) (rows_loaded call (after sheet (call row)) (n + 1) rows stop) (Err (fault (call_refusal sheet (call row)) n 0))
+    cond (call_refusal sheet (call row) == 0) (rows_loaded call (after sheet (call row)) (n + 1) rows stop) (Err (fault (refusal_of (call_refusal sheet (call row))) n 0))
 
 -- the rows of a text begin with line 2
 abbrev pub load_reading : (List ℤ → Call) → SheetData → Reading → Result SheetData Fault
@@ -55,14 +58,10 @@ load_reading call sheet r = rows_loaded call sheet 2 r.rows r.stop
 
 -- ---- both tables
 
--- a fault, and the number of its file
-pub record FileFault : Type 0 where
-  pub file : ℕ
-  pub fault : Fault
-
-abbrev pub placed_in_file : ℕ → Result SheetData Fault → Result SheetData FileFault
-placed_in_file n (Ok sheet) = Ok sheet
-placed_in_file n (Err f) = Err (record { file = n; fault = f })
+-- a fault, and its file
+abbrev pub placed_in_file : File → Result SheetData Fault → Result SheetData FileFault
+placed_in_file file (Ok sheet) = Ok sheet
+placed_in_file file (Err f) = Err (record { file = file; fault = f })
 
 abbrev pub and_then : Result SheetData FileFault → (SheetData → Result SheetData FileFault) → Result SheetData FileFault
 and_then (Ok sheet) next = next sheet
@@ -70,7 +69,7 @@ and_then (Err f) next = Err f
 
 -- the nodes are added to an empty sheet, and then the areas are published
 abbrev pub load_both : Reading → Reading → Result SheetData FileFault
-load_both nodes areas = and_then (placed_in_file 1 (load_reading add_of empty_sheet nodes)) (λ sheet. placed_in_file 2 (load_reading publish_of sheet areas))
+load_both nodes areas = and_then (placed_in_file files.Nodes (load_reading add_of empty_sheet nodes)) (λ sheet. placed_in_file files.Areas (load_reading publish_of sheet areas))
 
 abbrev pub loaded_of : (nodes areas : List ℕ) → Result SheetData FileFault
 loaded_of nodes areas = load_both (reading Nodes nodes) (reading Areas areas)

@@ -3,37 +3,38 @@ ghost use Rattle.std.specs.Prelude.{◌≡◌, ℕ, List, IfOk};
 ghost use Rattle.table.specs.declared.table.Table.TheVariants.{Nodes, Areas};
 ghost use Rattle.table.specs.Reading.{reading};
 ghost use Rattle.table.specs.Rearranged.{Rearranged};
+ghost use Rattle.files.specs.Files.{file_of};
 ghost use Rattle.sheet.specs.Held.{data_of};
-ghost use Rattle.loading.specs.Loading.{load_reading, loaded_of};
-ghost use Rattle.loading.specs.Loads.{table_of, call_of, rest_of, Ends, Loads, Built};
+ghost use Rattle.loading.specs.Loading.{load_reading, placed_in_file, loaded_of};
+ghost use Rattle.loading.specs.Loads.{rest_of, Ends, Loads, Built};
 
-use crate::error::LoadError;
-use crate::part::{Part, send_row};
+use crate::part::{AreaRows, NodeRows, Part};
+use files::{File, FileFault, LoadError, TableRows};
 use refusal::Fault;
 use sheet::Sheet;
 use std::alloc::Global;
-use table::reader::{Opened, Rows};
 
 // The rows that are still to be read.
-fn load_rows(sheet: &mut Sheet, part: Part, rows: &mut Rows) -> Result<(), Fault>
-    ensures { Ends result (data_of sheet.new) (rest_of part (data_of sheet.old) rows.old) }
+fn load_rows<P: Part>(sheet: &mut Sheet, rows: &mut TableRows) -> Result<(), FileFault>
+    ensures { Ends result (data_of sheet.new) (placed_in_file (file_of rows.old.table) (rest_of P.call (data_of sheet.old) rows.old.rows)) }
 {
     while let Some(row) = rows.next()? {
-        if let Err(refusal) = send_row(sheet, part, &row) {
-            return Err(Fault::new(refusal, rows.lines_read(), 0));
-        }
+        let file = File::from(rows.table);
+        let line = rows.lines_read();
+        P::send(sheet, &row).map_err(|refusal| FileFault {
+            file,
+            fault: Fault::new(refusal, line, 0),
+        })?;
     }
     Ok(())
 }
 
 // A table from its first line on.
-fn load_table(sheet: &mut Sheet, part: Part, text: &[u8]) -> Result<(), Fault>
-    ensures { Ends result (data_of sheet.new) (load_reading (call_of part) (data_of sheet.old) (reading (table_of part) text.now)) }
+fn load_table<P: Part>(sheet: &mut Sheet, text: &[u8]) -> Result<(), FileFault>
+    ensures { Ends result (data_of sheet.new) (placed_in_file (file_of P.part_table) (load_reading P.call (data_of sheet.old) (reading P.part_table text.now))) }
 {
-    let opened = Opened::new(part.table(), text)?;
-    let names = opened.names()?;
-    let mut rows = opened.rows(names);
-    load_rows(sheet, part, &mut rows)
+    let mut rows = TableRows::open(P::table(), text)?;
+    load_rows::<P>(sheet, &mut rows)
 }
 
 // The sheet with the nodes of the first table and the areas of the second, or the first fault.
@@ -43,11 +44,7 @@ pub fn load(heap: Global, nodes: &[u8], areas: &[u8]) -> Result<Sheet, LoadError
     ensures same { (places others places' others' : List ℕ) → Rearranged Nodes places nodes.now others → Rearranged Areas places' areas.now others' → loaded_of others others' ≡ loaded_of nodes.now areas.now }
 {
     let mut sheet = Sheet::new(heap)?;
-    if let Err(fault) = load_table(&mut sheet, Part::Nodes, nodes) {
-        return Err(LoadError::Fault { file: 1, fault });
-    }
-    if let Err(fault) = load_table(&mut sheet, Part::Areas, areas) {
-        return Err(LoadError::Fault { file: 2, fault });
-    }
+    load_table::<NodeRows>(&mut sheet, nodes)?;
+    load_table::<AreaRows>(&mut sheet, areas)?;
     Ok(sheet)
 }

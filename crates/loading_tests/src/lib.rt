@@ -2,6 +2,7 @@
 
 #[cfg(test)]
 mod tests {
+    use leg::Point;
     use leg_check::Verdict;
     use loading::{LoadError, load};
     use refusal::Fault;
@@ -19,29 +20,31 @@ mod tests {
 
     const AREAS: &[u8] = b"area node on\n";
 
+    // The numbers of a fault: refusal, layer, line and column.
+    fn numbers_of(fault: Fault) -> (u8, u8, usize, usize) {
+        (
+            fault.number(),
+            fault.layer().number(),
+            fault.line,
+            fault.column,
+        )
+    }
+
     fn check_fault(
         rt: &impl Abort,
         heap: Global,
         nodes: &[u8],
         areas: &[u8],
         file: u8,
-        fault: Fault,
+        numbers: (u8, u8, usize, usize),
     ) -> Result<(), Fail> {
         match load(heap, nodes, areas) {
-            Err(
-                LoadError::Fault {
-                    file: in_file,
-                    fault: found,
-                },
-            ) => {
-                assert_eq!(rt; in_file, file);
-                assert_eq!(rt; found, fault);
+            Err(LoadError::Fault(found)) => {
+                assert_eq!(rt; found.file.number(), file);
+                assert_eq!(rt; numbers_of(found.fault), numbers);
                 Ok(())
             }
-            _ => {
-                assert!(rt; false);
-                Ok(())
-            },
+            _ => Err(Fail::new("a fault")),
         }
     }
 
@@ -49,19 +52,9 @@ mod tests {
     fn refused_rows(rt: HostRuntime) -> Result<(), Fail> {
         let bad_node =
             b"kind a b px py pz sx sy sz lx ly lz k\n1 0 0 0 0 0 1 1 0 0 0 0 -100\n1 0 0 0 0 0 1 1 0 0 0 0 1073741825\n";
-        let outside = Fault {
-            number: 10,
-            layer: 3,
-            line: 3,
-            column: 0,
-        };
+        let outside = (10, 3, 3, 0);
         check_fault(&rt, rt.alloc(), bad_node, AREAS, 1, outside)?;
-        let no_node = Fault {
-            number: 17,
-            layer: 3,
-            line: 2,
-            column: 0,
-        };
+        let no_node = (17, 3, 2, 0);
         check_fault(&rt, rt.alloc(), NODES, b"area node on\n3 0 1\n", 2, no_node)
     }
 
@@ -72,23 +65,13 @@ mod tests {
         for _ in 0..65 {
             nodes.extend_from_slice(CYLINDER)?;
         }
-        let full = Fault {
-            number: 6,
-            layer: 3,
-            line: 66,
-            column: 0,
-        };
+        let full = (6, 3, 66, 0);
         check_fault(&rt, rt.alloc(), &nodes, AREAS, 1, full)
     }
 
     #[test]
     fn text_fault_of_areas(rt: HostRuntime) -> Result<(), Fail> {
-        let no_number = Fault {
-            number: 5,
-            layer: 2,
-            line: 3,
-            column: 3,
-        };
+        let no_number = (5, 2, 3, 3);
         let areas = b"area node on\n3 0 1\n4 0 yes\n";
         check_fault(&rt, rt.alloc(), ONE_NODE, areas, 2, no_number)
     }
@@ -100,9 +83,9 @@ mod tests {
             assert!(rt; false);
             return Ok(());
         };
-        let through = sheet.check(-40, 0, 0, 40, 0, 0);
+        let through = sheet.check(Point::new(-40, 0, 0), Point::new(40, 0, 0));
         assert!(rt; matches!(through, Ok(Verdict::Entered { .. })));
-        let past = sheet.check(-40, 40, 0, 40, 40, 0);
+        let past = sheet.check(Point::new(-40, 40, 0), Point::new(40, 40, 0));
         assert!(rt; matches!(past, Ok(Verdict::Clear { .. })));
         Ok(())
     }

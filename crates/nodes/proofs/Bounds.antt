@@ -1,5 +1,5 @@
 -- How large the numbers of a combined form are.
-use Rattle.std.proofs.Common.{ℕ, ◌+◌, ◌*◌, ℤ, pos, negsuc, ◌≤ℤ◌, arith}
+use Rattle.std.proofs.Common.{◌≡◌, ℕ, ◌+◌, ◌*◌, ℤ, pos, negsuc, ◌≤ℤ◌, sym, subst, arith}
 use borrow.Author.Differences.{ints}
 use Rattle.integer.specs.Numbers.{Within}
 use Rattle.integer.proofs.Absolute.{within_sum, within_product, within_abs_self, within_wider}
@@ -19,6 +19,13 @@ more l k = omega (arith, ints)
 
 pub bounded_shifted : {k l : ℕ} {c : ℤ} {u : Form} → Within c (pos k) → Bounded l u → Bounded (l + k) (shifted_by c u)
 bounded_shifted {k} {l} w a = record { first = within_sum a.first w; second = within_wider a.second (more l k); third = within_wider a.third (more l k) }
+
+-- a form that a call answers
+pub sum_in : {k l : ℕ} {u v r : Form} → Bounded k u → Bounded l v → r ≡ sum_of u v → Bounded (k + l) r
+sum_in {k} {l} a b e = subst (Bounded (k + l)) (sym e) (bounded_sum a b)
+
+pub scaled_in : {k l : ℕ} {c : ℤ} {u r : Form} → Within c (pos k) → Bounded l u → r ≡ scaled_by c u → Bounded (k * l) r
+scaled_in {k} {l} w a e = subst (Bounded (k * l)) (sym e) (bounded_scaled w a)
 
 -- −4096
 pub is_down : Is (negsuc 4095) (negsuc 4095) 4096

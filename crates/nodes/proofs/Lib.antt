@@ -3,3 +3,4 @@ pub mod Bounds
 pub mod ExtentCode
 pub mod Growing
 pub mod Testing
+pub mod WholeQuadric

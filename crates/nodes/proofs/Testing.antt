@@ -1,16 +1,16 @@
 -- What the tests of a new node say.
-use Rattle.std.proofs.Common.{◌≡◌, ℕ, Bool, true, false, cond, ◌&&◌, List, length, ℤ, pos, negsuc, neg_ℤ, ◌≤ℤ◌, ◌<ℤ◌, sym, refl, ap, subst, arith}
+use Rattle.std.proofs.Common.{◌≡◌, ℕ, Bool, true, false, cond, ◌&&◌, List, [], ◌∷◌, ◌++◌, length, ℤ, pos, negsuc, neg_ℤ, ◌≤ℤ◌, ◌<ℤ◌, sym, refl, ap, subst, arith}
 use lib.Signed.{le_z, lt_z}
 use borrow.Author.Differences.{ints}
 use Rattle.std.proofs.lemmas.Bool.{and_parts, and_from, both_ways, eqb-true}
 use Rattle.integer.specs.Numbers.{Within}
-use Rattle.integer.proofs.Absolute.{within_from}
 use Rattle.nodes.specs.declared.node.Node.{Node}
 use Rattle.nodes.specs.declared.node.Shape.{Shape}
 use Rattle.nodes.specs.declared.node.Shape.TheVariants.{Quadric, Sum, Union, Common, Outside}
 use Rattle.nodes.specs.Tables.{equals, shape_of}
-use Rattle.nodes.specs.Formed.{InRange, NoQuadric, Refers, Known, Keeps, reach_bound}
+use Rattle.nodes.specs.Formed.{InRange, NoQuadric, Refers, Known, Keeps, WellFormed, reach_bound}
 use Rattle.nodes.specs.Validation.{between, known, refers, references, zeros, no_quadric, unused, all_between, centre_lies_on_map, quadric_lies_in_range, in_range, new_reach, node_refusal}
+use Rattle.nodes.proofs.Growing.{last_known, last_keeps, last_reach}
 
 zero_is : (z : ℤ) → equals z 0 ≡ true → z ≡ pos 0
 zero_is (pos k) t = ap pos (eqb-true k 0 t)
@@ -19,14 +19,16 @@ zero_is (negsuc k) t = absurd (both_ways false refl t)
 between_parts : (low z high : ℤ) → between low z high ≡ true → (low ≤ℤ z) × (z ≤ℤ high)
 between_parts low z high t = let p = and_parts (le_z low z) (le_z z high) t in (omega (arith, ints), omega (arith, ints))
 
-within_16 : (z : ℤ) → between (negsuc 15) z (pos 16) ≡ true → Within z (pos 16)
-within_16 z t = let p = between_parts (negsuc 15) z (pos 16) t in let a = p.0 in let b = p.1 in within_from z (pos 16) (omega (arith, ints)) (omega (arith, ints))
+within_is : (low z high : ℤ) → neg_ℤ high ≡ low → between low z high ≡ true → Within z high
+within_is low z high e t = let p = between_parts low z high t in record { above = subst (λ (x : ℤ). x ≤ℤ z) (sym e) p.0; below = p.1 }
 
-within_4096 : (z : ℤ) → between (negsuc 4095) z (pos 4096) ≡ true → Within z (pos 4096)
-within_4096 z t = let p = between_parts (negsuc 4095) z (pos 4096) t in let a = p.0 in let b = p.1 in within_from z (pos 4096) (omega (arith, ints)) (omega (arith, ints))
+each_is : (low high x y z : ℤ) → neg_ℤ high ≡ low → all_between low high x y z ≡ true → Within x high × Within y high × Within z high
+each_is low high x y z e t =
+    let p = and_parts _ (between low z high) t in let q = and_parts (between low x high) (between low y high) p.0 in
+    (within_is low x high e q.0, within_is low y high e q.1, within_is low z high e p.1)
 
-within_level : (z : ℤ) → between (negsuc 1073741823) z (pos 1073741824) ≡ true → Within z (pos 1073741824)
-within_level z t = let p = between_parts (negsuc 1073741823) z (pos 1073741824) t in let a = p.0 in let b = p.1 in within_from z (pos 1073741824) (omega (arith, ints)) (omega (arith, ints))
+zeros_are : (x y z : ℤ) → zeros x y z ≡ true → (x ≡ pos 0) × (y ≡ pos 0) × (z ≡ pos 0)
+zeros_are x y z t = let p = and_parts (equals x 0) _ t in let q = and_parts (equals y 0) (equals z 0) p.1 in (zero_is x p.0, zero_is y q.0, zero_is z q.1)
 
 pub known_is : (kind : ℤ) → known kind ≡ true → Known kind
 known_is kind t = let p = between_parts (pos 1) kind (pos 5) t in record { from = p.0; to = p.1 }
@@ -39,19 +41,17 @@ no_quadric_is node t =
     let a = and_parts _ (equals node.k 0) t in
     let b = and_parts _ (zeros node.lx node.ly node.lz) a.0 in
     let c = and_parts (zeros node.px node.py node.pz) (zeros node.sx node.sy node.sz) b.0 in
-    let p = and_parts (equals node.px 0) _ c.0 in let q = and_parts (equals node.py 0) (equals node.pz 0) p.1 in
-    let s = and_parts (equals node.sx 0) _ c.1 in let u = and_parts (equals node.sy 0) (equals node.sz 0) s.1 in
-    let l = and_parts (equals node.lx 0) _ b.1 in let m = and_parts (equals node.ly 0) (equals node.lz 0) l.1 in
+    let p = zeros_are _ _ _ c.0 in let s = zeros_are _ _ _ c.1 in let l = zeros_are _ _ _ b.1 in
     record {
-      px_zero = zero_is _ p.0;
-      py_zero = zero_is _ q.0;
-      pz_zero = zero_is _ q.1;
-      sx_zero = zero_is _ s.0;
-      sy_zero = zero_is _ u.0;
-      sz_zero = zero_is _ u.1;
-      lx_zero = zero_is _ l.0;
-      ly_zero = zero_is _ m.0;
-      lz_zero = zero_is _ m.1;
+      px_zero = p.0;
+      py_zero = p.1;
+      pz_zero = p.2;
+      sx_zero = s.0;
+      sy_zero = s.1;
+      sz_zero = s.2;
+      lx_zero = l.0;
+      ly_zero = l.1;
+      lz_zero = l.2;
       k_zero = zero_is _ a.1;
     }
 
@@ -62,23 +62,19 @@ in_range_is node t =
     let c = and_parts (centre_lies_on_map node) (all_between (negsuc 15) (pos 16) node.sx node.sy node.sz) b.0 in
     let p = and_parts _ (between (negsuc 15) node.pz (pos 660)) c.0 in
     let q = and_parts (between (negsuc 4095) node.px (pos 4096)) (between (negsuc 4095) node.py (pos 4096)) p.0 in
-    let s = and_parts _ (between (negsuc 15) node.sz (pos 16)) c.1 in
-    let u = and_parts (between (negsuc 15) node.sx (pos 16)) (between (negsuc 15) node.sy (pos 16)) s.0 in
-    let l = and_parts _ (between (negsuc 4095) node.lz (pos 4096)) b.1 in
-    let m = and_parts (between (negsuc 4095) node.lx (pos 4096)) (between (negsuc 4095) node.ly (pos 4096)) l.0 in
-    let h = between_parts (negsuc 15) node.pz (pos 660) p.1 in
+    let s = each_is _ _ _ _ _ refl c.1 in let l = each_is _ _ _ _ _ refl b.1 in let h = between_parts _ _ _ p.1 in
     record {
-      px_in = within_4096 _ q.0;
-      py_in = within_4096 _ q.1;
+      px_in = within_is _ _ _ refl q.0;
+      py_in = within_is _ _ _ refl q.1;
       pz_from = h.0;
       pz_to = h.1;
-      sx_in = within_16 _ u.0;
-      sy_in = within_16 _ u.1;
-      sz_in = within_16 _ s.1;
-      lx_in = within_4096 _ m.0;
-      ly_in = within_4096 _ m.1;
-      lz_in = within_4096 _ l.1;
-      k_in = within_level _ a.1;
+      sx_in = s.0;
+      sy_in = s.1;
+      sz_in = s.2;
+      lx_in = l.0;
+      ly_in = l.1;
+      lz_in = l.2;
+      k_in = within_is _ _ _ refl a.1;
     }
 
 module _ (n : ℕ) (node : Node) where
@@ -176,3 +172,6 @@ accepted nodes node k keeps near =
     let passes = keeps_pass (length nodes) node (shape_of node) keeps in
     none_fits (known node.kind) (references (length nodes) node (shape_of node)) (unused node (shape_of node)) (in_range node (shape_of node)) (le_z (new_reach nodes node) reach_bound)
     (sym (known_test node.kind k)) (sym passes.refer) (sym passes.rest) (sym passes.range) (sym (le_test (new_reach nodes node) reach_bound near))
+
+pub longer_accepted : (nodes : List Node) (node : Node) → WellFormed (nodes ++ (node ∷ [])) → node_refusal nodes node ≡ 0
+longer_accepted nodes node longer = accepted nodes node (last_known nodes node longer) (last_keeps nodes node longer) (last_reach nodes node longer)

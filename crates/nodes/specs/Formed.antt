@@ -1,5 +1,7 @@
 -- What a list of nodes keeps.
 use Rattle.std.specs.Prelude.{◌≡◌, ℕ, ◌<◌, List, length, get_or, ℤ, pos, negsuc, ◌≤ℤ◌, ◌<ℤ◌, slice_index_or}
+use Rattle.std.proofs.Math.Dec.{T_prop}
+use Rattle.std.proofs.Math.IntN.{ℤ_set}
 use Rattle.integer.specs.Numbers.{Within}
 use Rattle.nodes.specs.declared.node.Node.{Node}
 use Rattle.nodes.specs.declared.node.Shape.{Shape}
@@ -65,3 +67,15 @@ pub record WellFormed (nodes : List Node) : Type 0 where
   pub known : (i : ℕ) → i < length nodes → Known (get_or nodes i no_node).kind
   pub keeps : (i : ℕ) → i < length nodes → Keeps i (slice_index_or nodes i no_node) (shape_of (slice_index_or nodes i no_node))
   pub reached : (i : ℕ) → i < length nodes → reach_of nodes i ≤ℤ reach_bound
+
+-- a node of this shape keeps it in one way only
+keeps_prop : (i : ℕ) (node : Node) (shape : Shape) → IsProp (Keeps i node shape)
+keeps_prop i node Quadric = Prim.hlevel (ℤ_set, T_prop)
+keeps_prop i node (Sum a b) = Prim.hlevel (ℤ_set, T_prop)
+keeps_prop i node (Union a b) = Prim.hlevel (ℤ_set, T_prop)
+keeps_prop i node (Common a b) = Prim.hlevel (ℤ_set, T_prop)
+keeps_prop i node (Outside a) = Prim.hlevel (ℤ_set, T_prop)
+
+-- so a list is well-formed in one way only
+pub well_formed_prop : (nodes : List Node) → IsProp (WellFormed nodes)
+well_formed_prop nodes = Prim.hlevel (keeps_prop, T_prop)

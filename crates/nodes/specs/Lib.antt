@@ -14,6 +14,5 @@ pub mod Numbers
 pub mod QuadricsLemmas
 pub mod Squares
 pub mod AffineForms
-pub mod WholeCode
 pub mod Ends
 pub mod WholeNumbers

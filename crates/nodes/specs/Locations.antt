@@ -7,7 +7,7 @@ use Rattle.leg.specs.declared.shapes.HalfStep.{HalfStep}
 use Rattle.leg.specs.declared.shapes.Piece.{Piece}
 use Rattle.leg.specs.Places.{coordinate, On}
 use Rattle.affine.specs.declared.Form.{Form}
-use Rattle.affine.specs.Forms.{sum_of, scaled_by, shifted_by}
+use Rattle.affine.specs.Forms.{sum_of, opposite_of, lesser_of, greater_of, scaled_by, shifted_by}
 use Rattle.affine.specs.Fits.{Bounded, EndsWithin}
 use Rattle.affine.specs.Holding.{Holds}
 use Rattle.nodes.specs.declared.node.Node.{Node}
@@ -22,9 +22,17 @@ pub record AxesBounded (axes : Axes) : Type 0 where
   pub y_in : Bounded 16777216 axes.y
   pub z_in : Bounded 16777216 axes.z
 
+-- how an arithmetic computes
+pub record Operations : Type 0 where
+  pub quadric : Axes → Node → Form
+  pub sum : Form → Form → Form
+  pub lesser : Form → Form → Form
+  pub greater : Form → Form → Form
+  pub opposite : Form → Form
+
 -- the algebra of an arithmetic, where these are the coordinates
-abbrev pub algebra : (Axes → Node → Form) → (sum lesser greater : Form → Form → Form) → (Form → Form) → Axes → Algebra Form
-algebra quadric sum lesser greater opposite axes = record { quadric = quadric axes; sum = sum; lesser = lesser; greater = greater; opposite = opposite; unknown = zero_form }
+abbrev pub algebra : Operations → Axes → Algebra Form
+algebra by axes = record { quadric = by.quadric axes; sum = by.sum; lesser = by.lesser; greater = by.greater; opposite = by.opposite; unknown = zero_form }
 
 -- ---- whole numbers at a half-step: a form whose other two numbers are 0
 
@@ -33,9 +41,9 @@ whole z = record { u0 = z; u1 = pos 0; u2 = pos 0 }
 
 abbrev pub whole_axes : Leg → HalfStep → Axes
 whole_axes leg step = record {
-  x = whole (coordinate leg.x1 leg.x2 (pos step.at) (pos 1));
-  y = whole (coordinate leg.y1 leg.y2 (pos step.at) (pos 1));
-  z = whole (coordinate leg.z1 leg.z2 (pos step.at) (pos 1));
+  x = whole (coordinate leg.start.x leg.end.x (pos step.at) (pos 1));
+  y = whole (coordinate leg.start.y leg.end.y (pos step.at) (pos 1));
+  z = whole (coordinate leg.start.z leg.end.z (pos step.at) (pos 1));
 }
 
 -- s D² + 4096 l D, where D = x − 4096 c
@@ -59,6 +67,9 @@ whole_greater u v = whole (int_max u.u0 v.u0)
 abbrev pub whole_opposite : Form → Form
 whole_opposite u = whole (neg_ℤ u.u0)
 
+abbrev pub whole_operations : Operations
+whole_operations = record { quadric = whole_quadric; sum = whole_sum; lesser = whole_lesser; greater = whole_greater; opposite = whole_opposite }
+
 -- within 2^60
 abbrev pub WholeFits : Form → Type 0
 WholeFits u = Within u.u0 (pos 1152921504606846976)
@@ -71,9 +82,9 @@ WholeHolds step u F = u ≡ whole (F (pos step.at) (pos 1))
 
 abbrev pub affine_axes : Leg → Piece → Axes
 affine_axes leg piece = record {
-  x = line_of (coordinate leg.x1 leg.x2 (pos piece.middle) (pos 1)) ((leg.x2 -ℤ leg.x1) *ℤ pos piece.half);
-  y = line_of (coordinate leg.y1 leg.y2 (pos piece.middle) (pos 1)) ((leg.y2 -ℤ leg.y1) *ℤ pos piece.half);
-  z = line_of (coordinate leg.z1 leg.z2 (pos piece.middle) (pos 1)) ((leg.z2 -ℤ leg.z1) *ℤ pos piece.half);
+  x = line_of (coordinate leg.start.x leg.end.x (pos piece.middle) (pos 1)) ((leg.end.x -ℤ leg.start.x) *ℤ pos piece.half);
+  y = line_of (coordinate leg.start.y leg.end.y (pos piece.middle) (pos 1)) ((leg.end.y -ℤ leg.start.y) *ℤ pos piece.half);
+  z = line_of (coordinate leg.start.z leg.end.z (pos piece.middle) (pos 1)) ((leg.end.z -ℤ leg.start.z) *ℤ pos piece.half);
 }
 
 -- s D² + 4096 l D, where D = x − 4096 c
@@ -84,6 +95,9 @@ abbrev pub affine_quadric : Axes → Node → Form
 affine_quadric axes node =
     shifted_by (pos 16777216 *ℤ node.k)
     (sum_of (sum_of (affine_axis axes.x node.px node.sx node.lx) (affine_axis axes.y node.py node.sy node.ly)) (affine_axis axes.z node.pz node.sz node.lz))
+
+abbrev pub affine_operations : Operations
+affine_operations = record { quadric = affine_quadric; sum = λ u v. sum_of u v; lesser = lesser_of; greater = greater_of; opposite = λ u. opposite_of u }
 
 -- both ends within 2^61
 abbrev pub AffineFits : Form → Type 0

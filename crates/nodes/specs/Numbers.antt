@@ -3,6 +3,7 @@ use Rattle.std.specs.Prelude.{◌≡◌, suc, Bool, true, false, not, T, ℤ, po
 use Rattle.std.proofs.Common.{ℕ, ◌≤◌, sym, ap, ap₂, ◌∙◌, le→leb}
 use Rattle.std.proofs.Math.Nat.{le_of_lt}
 use Rattle.std.proofs.Math.Dec.{nleb→lt}
+use Rattle.std.proofs.Math.IntN.{neg_ℤ-neg_ℤ}
 use Rattle.std.specs.Int.Signed.{le_z_yes}
 use Rattle.std.specs.Int.{int_min, int_max}
 use Rattle.integer.specs.Numbers.{Within, absℤ}
@@ -69,12 +70,9 @@ lesser_over a b a' b' k k' k≥0 k'≥0 e f = times_min a b k' k'≥0 ∙ ap₂ 
 max_by_min : (a b : ℤ) → int_max a b ≡ neg_ℤ (int_min (neg_ℤ a) (neg_ℤ b))
 max_by_min a b =
     in_order a b
-    (λ h. max_is_second h ∙ twice b ∙ ap neg_ℤ (sym (min_is_second (turned a b h))))
-    (λ h. max_is_first h ∙ twice a ∙ ap neg_ℤ (sym (min_is_first (turned b a h))))
+    (λ h. max_is_second h ∙ sym (neg_ℤ-neg_ℤ b) ∙ ap neg_ℤ (sym (min_is_second (turned a b h))))
+    (λ h. max_is_first h ∙ sym (neg_ℤ-neg_ℤ a) ∙ ap neg_ℤ (sym (min_is_first (turned b a h))))
   where
-    twice : (x : ℤ) → x ≡ neg_ℤ (neg_ℤ x)
-    twice x = ring 1 (λ x. x := neg (neg x)) refl x
-
     turned : (x y : ℤ) → x ≤ℤ y → neg_ℤ y ≤ℤ neg_ℤ x
     turned x y h = by_gap _ _ _ (gap h) (ring 2 (λ x y. y :- x := neg x :- neg y) refl x y)
 

@@ -13,13 +13,13 @@ offset a b c p q = coordinate a b p q -ℤ pos 4096 *ℤ c *ℤ q
 
 -- q DX, q DY, q DZ
 abbrev pub offset_x : Leg → Node → (p q : ℤ) → ℤ
-offset_x leg node p q = offset leg.x1 leg.x2 node.px p q
+offset_x leg node p q = offset leg.start.x leg.end.x node.px p q
 
 abbrev pub offset_y : Leg → Node → (p q : ℤ) → ℤ
-offset_y leg node p q = offset leg.y1 leg.y2 node.py p q
+offset_y leg node p q = offset leg.start.y leg.end.y node.py p q
 
 abbrev pub offset_z : Leg → Node → (p q : ℤ) → ℤ
-offset_z leg node p q = offset leg.z1 leg.z2 node.pz p q
+offset_z leg node p q = offset leg.start.z leg.end.z node.pz p q
 
 -- q² times sx DX² + sy DY² + sz DZ² + 4096 (lx DX + ly DY + lz DZ) + 2^24 k
 unfoldable pub quadric_value : Leg → Node → (p q : ℤ) → ℤ
@@ -30,11 +30,15 @@ quadric_value leg node p q =
     +ℤ pos 4096 *ℤ (node.lx *ℤ offset_x leg node p q +ℤ node.ly *ℤ offset_y leg node p q +ℤ node.lz *ℤ offset_z leg node p q) *ℤ q
     +ℤ pos 16777216 *ℤ node.k *ℤ (q *ℤ q)
 
+-- |x dx| + |y dy| + |z dz|, where the leg moves by dx, dy, dz
+abbrev pub moved_by : Leg → (x y z : ℤ) → ℤ
+moved_by leg x y z = absℤ (x *ℤ (leg.end.x -ℤ leg.start.x)) +ℤ absℤ (y *ℤ (leg.end.y -ℤ leg.start.y)) +ℤ absℤ (z *ℤ (leg.end.z -ℤ leg.start.z))
+
 -- 2^26 (|sx dx| + |sy dy| + |sz dz|) + 4096 (|lx dx| + |ly dy| + |lz dz|)
 unfoldable pub quadric_steepness : Leg → Node → ℤ
 quadric_steepness leg node =
-    pos 67108864 *ℤ (absℤ (node.sx *ℤ (leg.x2 -ℤ leg.x1)) +ℤ absℤ (node.sy *ℤ (leg.y2 -ℤ leg.y1)) +ℤ absℤ (node.sz *ℤ (leg.z2 -ℤ leg.z1)))
-    +ℤ pos 4096 *ℤ (absℤ (node.lx *ℤ (leg.x2 -ℤ leg.x1)) +ℤ absℤ (node.ly *ℤ (leg.y2 -ℤ leg.y1)) +ℤ absℤ (node.lz *ℤ (leg.z2 -ℤ leg.z1)))
+    pos 67108864 *ℤ (absℤ (node.sx *ℤ (leg.end.x -ℤ leg.start.x)) +ℤ absℤ (node.sy *ℤ (leg.end.y -ℤ leg.start.y)) +ℤ absℤ (node.sz *ℤ (leg.end.z -ℤ leg.start.z)))
+    +ℤ pos 4096 *ℤ (absℤ (node.lx *ℤ (leg.end.x -ℤ leg.start.x)) +ℤ absℤ (node.ly *ℤ (leg.end.y -ℤ leg.start.y)) +ℤ absℤ (node.lz *ℤ (leg.end.z -ℤ leg.start.z)))
 
 -- 2^50 (|sx| + |sy| + |sz|) + 2^37 (|lx| + |ly| + |lz|) + 2^24 |k|
 unfoldable pub quadric_reach : Node → ℤ
@@ -55,13 +59,13 @@ line_of middle change = record { u0 = middle; u1 = change; u2 = pos 0 }
 
 -- DX, DY, DZ
 abbrev pub form_x : Leg → Node → (m r : ℤ) → Form
-form_x leg node m r = line_of (offset_x leg node m (pos 1)) ((leg.x2 -ℤ leg.x1) *ℤ r)
+form_x leg node m r = line_of (offset_x leg node m (pos 1)) ((leg.end.x -ℤ leg.start.x) *ℤ r)
 
 abbrev pub form_y : Leg → Node → (m r : ℤ) → Form
-form_y leg node m r = line_of (offset_y leg node m (pos 1)) ((leg.y2 -ℤ leg.y1) *ℤ r)
+form_y leg node m r = line_of (offset_y leg node m (pos 1)) ((leg.end.y -ℤ leg.start.y) *ℤ r)
 
 abbrev pub form_z : Leg → Node → (m r : ℤ) → Form
-form_z leg node m r = line_of (offset_z leg node m (pos 1)) ((leg.z2 -ℤ leg.z1) *ℤ r)
+form_z leg node m r = line_of (offset_z leg node m (pos 1)) ((leg.end.z -ℤ leg.start.z) *ℤ r)
 
 -- sx DX² + sy DY² + sz DZ² + 4096 (lx DX + ly DY + lz DZ) + 2^24 k in forms
 unfoldable pub quadric_form : Leg → Node → (m r : ℤ) → Form

@@ -239,33 +239,33 @@ close_by u v w = record { start = within_sum u (within_neg w); end = within_sum 
 
 -- the coordinates of a leg's ends
 module _ (leg : Leg) where
-  pub x1_in : Within leg.x1 (pos 4096)
-  x1_in = within_natural leg.x1 4096 leg.start.0
+  pub start_x_in : Within leg.start.x (pos 4096)
+  start_x_in = within_natural leg.start.x 4096 leg.start_on_map.0
 
-  pub y1_in : Within leg.y1 (pos 4096)
-  y1_in = within_natural leg.y1 4096 leg.start.1
+  pub start_y_in : Within leg.start.y (pos 4096)
+  start_y_in = within_natural leg.start.y 4096 leg.start_on_map.1
 
-  pub z1_in : Within leg.z1 (pos 4096)
-  z1_in = height_in leg.start.2 leg.start.3
+  pub start_z_in : Within leg.start.z (pos 4096)
+  start_z_in = height_in leg.start_on_map.2 leg.start_on_map.3
 
-  pub x2_in : Within leg.x2 (pos 4096)
-  x2_in = within_natural leg.x2 4096 leg.end.0
+  pub end_x_in : Within leg.end.x (pos 4096)
+  end_x_in = within_natural leg.end.x 4096 leg.end_on_map.0
 
-  pub y2_in : Within leg.y2 (pos 4096)
-  y2_in = within_natural leg.y2 4096 leg.end.1
+  pub end_y_in : Within leg.end.y (pos 4096)
+  end_y_in = within_natural leg.end.y 4096 leg.end_on_map.1
 
-  pub z2_in : Within leg.z2 (pos 4096)
-  z2_in = height_in leg.end.2 leg.end.3
+  pub end_z_in : Within leg.end.z (pos 4096)
+  end_z_in = height_in leg.end_on_map.2 leg.end_on_map.3
 
 module _ (leg : Leg) (node : Node) where
   in_x : Meaning
-  in_x = axis leg.x1 leg.x2 node.px node.sx node.lx
+  in_x = axis leg.start.x leg.end.x node.px node.sx node.lx
 
   in_y : Meaning
-  in_y = axis leg.y1 leg.y2 node.py node.sy node.ly
+  in_y = axis leg.start.y leg.end.y node.py node.sy node.ly
 
   in_z : Meaning
-  in_z = axis leg.z1 leg.z2 node.pz node.sz node.lz
+  in_z = axis leg.start.z leg.end.z node.pz node.sz node.lz
 
   in_parts : Meaning
   in_parts = (meanings leg).sum ((meanings leg).sum ((meanings leg).sum in_x in_y) in_z) (constant (pos 16777216 *ℤ node.k))
@@ -284,8 +284,8 @@ module _ (leg : Leg) (node : Node) where
       ring 6 (λ sx sy sz lx ly lz.
       (((con (pos 67108864) :* sx :+ con (pos 4096) :* lx) :+ (con (pos 67108864) :* sy :+ con (pos 4096) :* ly)) :+ (con (pos 67108864) :* sz :+ con (pos 4096) :* lz)) :+ con (pos 0)
       := con (pos 67108864) :* (sx :+ sy :+ sz) :+ con (pos 4096) :* (lx :+ ly :+ lz)) refl
-      (absℤ (node.sx *ℤ (leg.x2 -ℤ leg.x1))) (absℤ (node.sy *ℤ (leg.y2 -ℤ leg.y1))) (absℤ (node.sz *ℤ (leg.z2 -ℤ leg.z1)))
-      (absℤ (node.lx *ℤ (leg.x2 -ℤ leg.x1))) (absℤ (node.ly *ℤ (leg.y2 -ℤ leg.y1))) (absℤ (node.lz *ℤ (leg.z2 -ℤ leg.z1)))
+      (absℤ (node.sx *ℤ (leg.end.x -ℤ leg.start.x))) (absℤ (node.sy *ℤ (leg.end.y -ℤ leg.start.y))) (absℤ (node.sz *ℤ (leg.end.z -ℤ leg.start.z)))
+      (absℤ (node.lx *ℤ (leg.end.x -ℤ leg.start.x))) (absℤ (node.ly *ℤ (leg.end.y -ℤ leg.start.y))) (absℤ (node.lz *ℤ (leg.end.z -ℤ leg.start.z)))
 
   same_reach : in_parts.reach ≡ quadric_reach node
   unfolding in_parts in_x in_y in_z quadric_reach
@@ -298,8 +298,8 @@ module _ (leg : Leg) (node : Node) where
 
   -- the quadric's form is the sum of the axes' forms and the constant
   pub form_in_parts : (m r : ℤ) →
-      sum_of (sum_of (sum_of (axis_form leg.x1 leg.x2 node.px node.sx node.lx m r) (axis_form leg.y1 leg.y2 node.py node.sy node.ly m r))
-      (axis_form leg.z1 leg.z2 node.pz node.sz node.lz m r)) (line_of (pos 16777216 *ℤ node.k) (pos 0)) ≡ quadric_form leg node m r
+      sum_of (sum_of (sum_of (axis_form leg.start.x leg.end.x node.px node.sx node.lx m r) (axis_form leg.start.y leg.end.y node.py node.sy node.ly m r))
+      (axis_form leg.start.z leg.end.z node.pz node.sz node.lz m r)) (line_of (pos 16777216 *ℤ node.k) (pos 0)) ≡ quadric_form leg node m r
   unfolding quadric_form
   form_in_parts m r =
       let x : Form = form_x leg node m r in let y : Form = form_y leg node m r in let z : Form = form_z leg node m r in
@@ -329,9 +329,9 @@ module _ (leg : Leg) (node : Node) where
       sum_lawful leg _ _
       (sum_lawful leg _ _
       (sum_lawful leg _ _
-      (axis_lawful leg.x1 leg.x2 node.px node.sx node.lx (close_by (x1_in leg) (x2_in leg) range.px_in))
-      (axis_lawful leg.y1 leg.y2 node.py node.sy node.ly (close_by (y1_in leg) (y2_in leg) range.py_in)))
-      (axis_lawful leg.z1 leg.z2 node.pz node.sz node.lz (close_by (z1_in leg) (z2_in leg) (height_in range.pz_from range.pz_to))))
+      (axis_lawful leg.start.x leg.end.x node.px node.sx node.lx (close_by (start_x_in leg) (end_x_in leg) range.px_in))
+      (axis_lawful leg.start.y leg.end.y node.py node.sy node.ly (close_by (start_y_in leg) (end_y_in leg) range.py_in)))
+      (axis_lawful leg.start.z leg.end.z node.pz node.sz node.lz (close_by (start_z_in leg) (end_z_in leg) (height_in range.pz_from range.pz_to))))
       (constant_lawful (pos 16777216 *ℤ node.k))
 
   pub quadric_lawful : InRange node → Lawful ((meanings leg).quadric node)

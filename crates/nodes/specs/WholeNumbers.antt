@@ -1,38 +1,21 @@
 -- Whole numbers at a half-step of a leg are the values of the nodes there, and none is too large.
-use Rattle.std.specs.Prelude.{◌≡◌, ℕ, ◌<◌, List, length, ℤ, pos, refl}
+use Rattle.std.specs.Prelude.{◌≡◌, ℕ, ◌<◌, List, length, pos, refl}
 use Rattle.std.proofs.Common.{sym, ap, ap₂, subst}
-use Rattle.integer.specs.Numbers.{Within}
 use Rattle.integer.proofs.Ring.{ring, ◌:+◌, ◌:-◌, ◌:*◌, con, ◌:=◌}
-use Rattle.integer.proofs.Order.{natural≥0}
-use Rattle.integer.proofs.Absolute.{within_same, within_self, within_wider}
+use Rattle.integer.proofs.Absolute.{within_same, within_wider}
 use Rattle.leg.specs.declared.shapes.Leg.{Leg}
 use Rattle.leg.specs.declared.shapes.HalfStep.{HalfStep}
 use Rattle.leg.specs.Places.{coordinate}
 use Rattle.affine.specs.declared.Form.{Form}
-use Rattle.affine.specs.Fits.{Bounded}
 use Rattle.nodes.specs.declared.node.Node.{Node}
 use Rattle.nodes.specs.Tables.{result_of}
 use Rattle.nodes.specs.Quadrics.{quadric_value}
-use Rattle.nodes.specs.Meanings.{Value, values, value_of}
+use Rattle.nodes.specs.Meanings.{Value, values}
 use Rattle.nodes.specs.Formed.{WellFormed}
-use Rattle.nodes.specs.Locations.{AxesBounded, algebra, whole, whole_axes, whole_quadric, whole_sum, whole_lesser, whole_greater, whole_opposite, WholeFits, WholeHolds}
-use Rattle.nodes.specs.TablesLemmas.{related_results}
-use Rattle.nodes.specs.QuadricsLemmas.{x1_in, x2_in, y1_in, y2_in, z1_in, z2_in}
-use Rattle.nodes.specs.WholeCode.{coordinate_in}
+use Rattle.nodes.specs.Locations.{algebra, whole, whole_axes, whole_quadric, whole_operations, whole_sum, whole_lesser, whole_greater, whole_opposite, WholeFits, WholeHolds}
+use Rattle.nodes.specs.TablesLemmas.{Related, related_results}
 use Rattle.nodes.specs.Ends.{step_on_leg}
 use Rattle.nodes.specs.Every.{every_node_is_lawful}
-
-whole_bounded : {z : ℤ} → Within z (pos 16777216) → Bounded 16777216 (whole z)
-whole_bounded w = record { first = w; second = within_wider (within_self (natural≥0 0)) (natural≥0 16777216); third = within_wider (within_self (natural≥0 0)) (natural≥0 16777216) }
-
-pub whole_axes_bounded : (leg : Leg) (step : HalfStep) → AxesBounded (whole_axes leg step)
-whole_axes_bounded leg step =
-    let at = step_on_leg step.at step.within in
-    record {
-      x_in = whole_bounded (coordinate_in leg.x1 leg.x2 (pos step.at) (x1_in leg) (x2_in leg) at);
-      y_in = whole_bounded (coordinate_in leg.y1 leg.y2 (pos step.at) (y1_in leg) (y2_in leg) at);
-      z_in = whole_bounded (coordinate_in leg.z1 leg.z2 (pos step.at) (z1_in leg) (z2_in leg) at);
-    }
 
 pub whole_quadric_holds : (leg : Leg) (step : HalfStep) (node : Node) → whole_quadric (whole_axes leg step) node ≡ whole (quadric_value leg node (pos step.at) (pos 1))
 unfolding quadric_value
@@ -47,23 +30,22 @@ whole_quadric_holds leg step node =
     :+ con (pos 4096) :* (lx :* (x :- con (pos 4096) :* px :* con (pos 1)) :+ ly :* (y :- con (pos 4096) :* py :* con (pos 1)) :+ lz :* (z :- con (pos 4096) :* pz :* con (pos 1))) :* con (pos 1)
     :+ con (pos 16777216) :* c :* (con (pos 1) :* con (pos 1))) refl
     node.sx node.sy node.sz node.lx node.ly node.lz
-    (coordinate leg.x1 leg.x2 (pos step.at) (pos 1)) (coordinate leg.y1 leg.y2 (pos step.at) (pos 1)) (coordinate leg.z1 leg.z2 (pos step.at) (pos 1))
+    (coordinate leg.start.x leg.end.x (pos step.at) (pos 1)) (coordinate leg.start.y leg.end.y (pos step.at) (pos 1)) (coordinate leg.start.z leg.end.z (pos step.at) (pos 1))
     node.px node.py node.pz node.k)
 
-module _ (nodes : List Node) (formed : WellFormed nodes) (leg : Leg) (step : HalfStep) where
-  whole_results : (i : ℕ) → i < length nodes → WholeHolds step (result_of (algebra whole_quadric whole_sum whole_lesser whole_greater whole_opposite (whole_axes leg step)) nodes i) (value_of leg nodes i)
-  whole_results =
-      related_results nodes formed (algebra whole_quadric whole_sum whole_lesser whole_greater whole_opposite (whole_axes leg step)) (values leg) (λ (u : Form) (F : Value). WholeHolds step u F)
-      (record {
-        quadric = λ node _. whole_quadric_holds leg step node;
-        sum = λ u v F G e f. ap₂ whole_sum e f;
-        lesser = λ u v F G e f. ap₂ whole_lesser e f;
-        greater = λ u v F G e f. ap₂ whole_greater e f;
-        opposite = λ u F e. ap whole_opposite e;
-      })
+-- numbers that hold values, combined, hold the combined value
+pub whole_related : (leg : Leg) (step : HalfStep) → Related (algebra whole_operations (whole_axes leg step)) (values leg) (λ (u : Form) (F : Value). WholeHolds step u F)
+whole_related leg step = record {
+  quadric = λ node _. whole_quadric_holds leg step node;
+  sum = λ u v F G e f. ap₂ whole_sum e f;
+  lesser = λ u v F G e f. ap₂ whole_lesser e f;
+  greater = λ u v F G e f. ap₂ whole_greater e f;
+  opposite = λ u F e. ap whole_opposite e;
+}
 
-  pub whole_small : (i : ℕ) → i < length nodes → WholeFits (result_of (algebra whole_quadric whole_sum whole_lesser whole_greater whole_opposite (whole_axes leg step)) nodes i)
+module _ (nodes : List Node) (formed : WellFormed nodes) (leg : Leg) (step : HalfStep) where
+  pub whole_small : (i : ℕ) → i < length nodes → WholeFits (result_of (algebra whole_operations (whole_axes leg step)) nodes i)
   whole_small i i< =
       let law = every_node_is_lawful nodes formed leg i i< in
-      subst WholeFits (sym (whole_results i i<))
+      subst WholeFits (sym (related_results nodes formed (algebra whole_operations (whole_axes leg step)) (values leg) (λ (u : Form) (F : Value). WholeHolds step u F) (whole_related leg step) i i<))
       (within_wider (within_same (law.in_reach (pos step.at) (pos 1) (step_on_leg step.at step.within)) refl (ring 1 (λ g. g :* (con (pos 1) :* con (pos 1)) := g) refl _)) law.reach_in_limit)

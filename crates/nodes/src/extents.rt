@@ -1,10 +1,10 @@
 // Steepness and reach of the nodes of a list, by one text: they add in a sum, and grow by a margin in a union or a common part.
-ghost use Rattle.std.specs.Prelude.{◌≡◌, ℕ, ◌<◌, ◌≤◌, List, length, get_or, ℤ, pos, ◌+ℤ◌, slice_index_or};
+ghost use Rattle.std.specs.Prelude.{◌≡◌, ℕ, ◌<◌, List, length, get_or, ℤ, pos, ◌+ℤ◌, slice_index_or};
 ghost use Rattle.std.specs.Int.{int_max};
 ghost use Rattle.integer.specs.Numbers.{Within, absℤ};
 ghost use Rattle.nodes.specs.declared.node.Node.{Node};
 ghost use Rattle.nodes.specs.Tables.{shape_of, given, result_of};
-ghost use Rattle.nodes.specs.Quadrics.{quadric_steepness, quadric_reach};
+ghost use Rattle.nodes.specs.Quadrics.{moved_by, quadric_steepness, quadric_reach};
 ghost use Rattle.nodes.specs.Meanings.{steepness_margin, reach_margin, steepness_of, reach_of};
 ghost use Rattle.nodes.specs.Meanings.{extents as extents_by};
 ghost use Rattle.nodes.specs.Formed.{InRange, Keeps, WellFormed};
@@ -12,6 +12,7 @@ ghost use Rattle.nodes.specs.Sizes.{Ready};
 ghost use Rattle.nodes.specs.Validation.{new_reach};
 ghost use Rattle.nodes.specs.Every.{steepness_small, reach_small};
 
+use crate::list::Nodes;
 use crate::node::{Node, Shape};
 use leg::Leg;
 
@@ -34,40 +35,41 @@ fn widened(a: i64, b: i64, margin: i64) -> i64
 trait Extent {
     ghost quadric_of: { Self → Node → ℤ };
 
-    ghost extra: { ℤ };
+    ghost MARGIN: { ℤ };
+
+    // what a union or a common part has above the larger of its nodes
+    const MARGIN: i64;
 
     fn quadric(&self, node: &Node) -> i64
         requires { InRange node.now }
         ensures { result ≡ quadric_of self.now node.now };
 
-    fn margin() -> i64
-        ensures value { result ≡ extra }
-        ensures small { Within result (pos 2048) };
+    ghost margin_small: { Within MARGIN (pos 2048) };
 
-    ghost all_small: { (extent : Self) (nodes : List Node) → WellFormed nodes → (i : ℕ) → i < length nodes → Within (result_of (extents_by (λ node. quadric_of extent node) extra) nodes i) (pos 1152921504606846976) };
+    ghost all_small: { (extent : Self) (nodes : List Node) → WellFormed nodes → (i : ℕ) → i < length nodes → Within (result_of (extents_by (λ node. quadric_of extent node) MARGIN) nodes i) (pos 1152921504606846976) };
 }
 
 // What a node has, where `done` holds what the nodes before it have.
 fn extent_of<E: Extent>(extent: &E, node: &Node, done: &[i64; 64]) -> i64
     requires { Ready node.now done.now (shape_of node.now) }
-    ensures { result ≡ given (extents_by (λ n. E.quadric_of extent.now n) E.extra) (λ k. get_or done.now k (pos 0)) node.now }
+    ensures { result ≡ given (extents_by (λ n. E.quadric_of extent.now n) E.MARGIN) (λ k. get_or done.now k (pos 0)) node.now }
 {
     match node.shape() {
         Shape::Quadric => extent.quadric(node),
         Shape::Sum(a, b) => done[a] + done[b],
-        Shape::Union(a, b) => widened(done[a], done[b], E::margin()),
-        Shape::Common(a, b) => widened(done[a], done[b], E::margin()),
+        Shape::Union(a, b) | Shape::Common(a, b) => widened(done[a], done[b], E::MARGIN),
         Shape::Outside(a) => done[a],
     }
 }
 
-fn extents<E: Extent>(extent: &E, nodes: &[Node]) -> [i64; 64]
-    requires few { length nodes.now ≤ 64 }
-    requires formed { WellFormed nodes.now }
-    ensures { (i : ℕ) → i < length nodes.now → slice_index_or result i (pos 0) ≡ result_of (extents_by (λ n. E.quadric_of extent.now n) E.extra) nodes.now i }
+// What each node has, in its place: in an array, since a check asks for no memory. One text with `evaluate` would need one trait for both, with the laws of each,
+// and be no plainer.
+fn extents<E: Extent>(extent: &E, nodes: &Nodes<'_>) -> [i64; 64]
+    ensures { (i : ℕ) → i < length nodes.now.all.now → slice_index_or result i (pos 0) ≡ result_of (extents_by (λ n. E.quadric_of extent.now n) E.MARGIN) nodes.now.all.now i }
 {
     let mut out = [0; 64];
-    for (i, node) in nodes.iter().enumerate() {
+    // an entry needs those before it, which an iterator over `out` could not read
+    for (i, node) in nodes.all.iter().enumerate() {
         out[i] = extent_of(extent, node, &out);
     }
     out
@@ -78,24 +80,35 @@ struct Steepness {
     leg: Leg,
 }
 
+impl Steepness {
+    // |x dx| + |y dy| + |z dz|, where the leg moves by dx, dy, dz.
+    fn moved(&self, x: i64, y: i64, z: i64) -> i64
+        requires { (Within x (pos 4096)) × ((Within y (pos 4096)) × (Within z (pos 4096))) }
+        ensures value { result ≡ moved_by self.now.leg x y z }
+        ensures small { Within result (pos 100663296) }
+    {
+        let dx = self.leg.end.x - self.leg.start.x;
+        let dy = self.leg.end.y - self.leg.start.y;
+        let dz = self.leg.end.z - self.leg.start.z;
+        size(x * dx, y * dy, z * dz)
+    }
+}
+
 impl Extent for Steepness {
     ghost quadric_of = { λ s node. quadric_steepness s.leg node };
 
-    ghost extra = { steepness_margin };
+    ghost MARGIN = { steepness_margin };
+
+    const MARGIN: i64 = 1;
+
+    ghost margin_small = { record { above = record { le = tt }; below = record { le = tt } } };
 
     ghost all_small = { λ extent nodes formed i i<. steepness_small nodes formed extent.leg i i< };
 
     fn quadric(&self, node: &Node) -> i64 {
-        let dx = self.leg.x2 - self.leg.x1;
-        let dy = self.leg.y2 - self.leg.y1;
-        let dz = self.leg.z2 - self.leg.z1;
-        let bent = size(node.sx * dx, node.sy * dy, node.sz * dz);
-        let straight = size(node.lx * dx, node.ly * dy, node.lz * dz);
+        let bent = self.moved(node.sx, node.sy, node.sz);
+        let straight = self.moved(node.lx, node.ly, node.lz);
         67108864 * bent + 4096 * straight
-    }
-
-    fn margin() -> i64 {
-        1
     }
 }
 
@@ -105,7 +118,11 @@ struct Reach;
 impl Extent for Reach {
     ghost quadric_of = { λ _ node. quadric_reach node };
 
-    ghost extra = { reach_margin };
+    ghost MARGIN = { reach_margin };
+
+    const MARGIN: i64 = 2048;
+
+    ghost margin_small = { record { above = record { le = tt }; below = record { le = tt } } };
 
     ghost all_small = { λ extent nodes formed i i<. reach_small nodes formed i i< };
 
@@ -114,37 +131,29 @@ impl Extent for Reach {
         let straight = size(node.lx, node.ly, node.lz);
         1125899906842624 * bent + 137438953472 * straight + 16777216 * node.k.abs()
     }
+}
 
-    fn margin() -> i64 {
-        2048
+impl Nodes<'_> {
+    // The steepness of each node on a leg: how far its value can change over one half-step.
+    pub fn steepnesses(&self, leg: &Leg) -> [i64; 64]
+        ensures { (i : ℕ) → i < length self.now.all.now → slice_index_or result i (pos 0) ≡ steepness_of leg.now self.now.all.now i }
+    {
+        extents(&Steepness { leg: *leg }, self)
     }
-}
 
-// The steepness of each node on a leg: how far its value can change over one half-step.
-pub fn steepnesses(nodes: &[Node], leg: &Leg) -> [i64; 64]
-    requires few { length nodes.now ≤ 64 }
-    requires formed { WellFormed nodes.now }
-    ensures { (i : ℕ) → i < length nodes.now → slice_index_or result i (pos 0) ≡ steepness_of leg.now nodes.now i }
-{
-    extents(&Steepness { leg: *leg }, nodes)
-}
+    // The reach of each node: on no leg is a value above it.
+    pub fn reaches(&self) -> [i64; 64]
+        ensures { (i : ℕ) → i < length self.now.all.now → slice_index_or result i (pos 0) ≡ reach_of self.now.all.now i }
+    {
+        extents(&Reach, self)
+    }
 
-// The reach of each node: on no leg is a value above it.
-pub fn reaches(nodes: &[Node]) -> [i64; 64]
-    requires few { length nodes.now ≤ 64 }
-    requires formed { WellFormed nodes.now }
-    ensures { (i : ℕ) → i < length nodes.now → slice_index_or result i (pos 0) ≡ reach_of nodes.now i }
-{
-    extents(&Reach, nodes)
-}
-
-// The reach of a node that is to follow a well-formed list.
-pub(crate) fn reach_after(nodes: &[Node], node: &Node) -> i64
-    requires few { length nodes.now ≤ 64 }
-    requires formed { WellFormed nodes.now }
-    requires keeps { Keeps (length nodes.now) node.now (shape_of node.now) }
-    ensures { result ≡ new_reach nodes.now node.now }
-{
-    let done = reaches(nodes);
-    extent_of(&Reach, node, &done)
+    // The reach of a node that is to follow the list.
+    pub(crate) fn reach_after(&self, node: &Node) -> i64
+        requires { Keeps (length self.now.all.now) node.now (shape_of node.now) }
+        ensures { result ≡ new_reach self.now.all.now node.now }
+    {
+        let done = self.reaches();
+        extent_of(&Reach, node, &done)
+    }
 }

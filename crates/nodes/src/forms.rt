@@ -1,31 +1,31 @@
 // Affine forms on a piece.
-ghost use Rattle.std.specs.Prelude.{◌≡◌, ℤ, pos, negsuc, ◌*ℤ◌};
+ghost use Rattle.std.specs.Prelude.{◌≡◌, ℤ, pos, negsuc, ◌-ℤ◌, ◌*ℤ◌};
 ghost use Rattle.integer.specs.Numbers.{Within};
-ghost use Rattle.affine.specs.Forms.{sum_of, lesser_of, greater_of, opposite_of, shifted_by};
+ghost use Rattle.leg.specs.Places.{coordinate as coordinate_value};
+ghost use Rattle.affine.specs.Forms.{shifted_by};
 ghost use Rattle.affine.specs.Fits.{Bounded};
 ghost use Rattle.nodes.specs.Quadrics.{square_of, line_of};
-ghost use Rattle.nodes.specs.Locations.{affine_axes, affine_axis, affine_quadric, AffineFits, AffineHolds};
-ghost use Rattle.nodes.specs.AffineForms.{affine_quadric_holds, affine_small};
-ghost use Rattle.affine.proofs.Holding.{holds_sum, holds_opposite};
-ghost use Rattle.affine.proofs.Choosing.{holds_lesser, holds_greater};
+ghost use Rattle.nodes.specs.Locations.{affine_axes, affine_axis, affine_operations, AffineFits, AffineHolds};
+ghost use Rattle.nodes.specs.AffineForms.{affine_related, affine_small};
 
 use crate::arithmetic::Arithmetic;
-use crate::axes::{Axes, change, coordinate};
+use crate::axes::Axes;
 use crate::node::Node;
 use affine::Form;
-use leg::{Leg, Piece};
+use leg::{Coordinate, Leg, Piece};
 
 // The arithmetic of affine forms.
 #[derive(Drop)]
 pub struct Affine;
 
-// The number that is `middle` in the middle of a piece, and changes evenly by `change` from there to its end.
-fn line(middle: i64, change: i64) -> Form
-    ensures { result ≡ line_of middle change }
+// A scaled coordinate on a piece: it changes evenly.
+fn along(coordinate: Coordinate, piece: Piece) -> Form
+    ensures value { result ≡ line_of (coordinate_value coordinate.from coordinate.to (pos piece.middle) (pos 1)) ((coordinate.to -ℤ coordinate.from) *ℤ pos piece.half) }
+    ensures bounded { Bounded 16777216 result }
 {
     Form {
-        u0: middle,
-        u1: change,
+        u0: coordinate.at(piece.middle_step()),
+        u1: coordinate.change(piece),
         u2: 0,
     }
 }
@@ -47,7 +47,8 @@ fn offset(x: Form, p: i64) -> Form
     x.shifted(-4096 * p)
 }
 
-// s D² + 4096 l D, where D is the coordinate `x` from the centre's, `p`, on.
+// s D² + 4096 l D, where D is the coordinate `x` from the centre's, `p`, on. whole.rt has it in whole numbers: one text would need products of both kinds and
+// their bounds in `Arithmetic`, and be no plainer.
 fn axis(x: Form, p: i64, s: i64, l: i64) -> Form
     requires { (Bounded 16777216 x) × ((Within p (pos 4096)) × ((Within s (pos 16)) × (Within l (pos 4096)))) }
     ensures value { result ≡ affine_axis x p s l }
@@ -64,45 +65,21 @@ impl Arithmetic for Affine {
 
     ghost axes_at = { affine_axes };
 
-    ghost quadric_of = { affine_quadric };
-
-    ghost sum_by = { sum_of };
-
-    ghost lesser_by = { lesser_of };
-
-    ghost greater_by = { greater_of };
-
-    ghost opposite_by = { opposite_of };
+    ghost operations = { affine_operations };
 
     ghost small = { AffineFits };
 
     ghost holds = { AffineHolds };
 
-    ghost quadric_holds = { λ leg at node range. affine_quadric_holds leg at node range };
-
-    ghost sum_holds = { λ at u v F G h k p q on. holds_sum (pos at.middle) (pos at.half) p q u v (F p q) (G p q) (q *ℤ q) (h p q on) (k p q on) };
-
-    ghost lesser_holds = { λ at u v F G h k p q on. holds_lesser (pos at.middle) (pos at.half) p q on u v (F p q) (G p q) (q *ℤ q) (h p q on) (k p q on) };
-
-    ghost greater_holds = { λ at u v F G h k p q on. holds_greater (pos at.middle) (pos at.half) p q on u v (F p q) (G p q) (q *ℤ q) (h p q on) (k p q on) };
-
-    ghost opposite_holds = { λ at u F h p q on. holds_opposite (pos at.middle) (pos at.half) p q u (F p q) (q *ℤ q) (h p q on) };
+    ghost holding = { λ leg at. affine_related leg at };
 
     ghost all_small = { λ nodes formed leg at i i<. affine_small leg at nodes formed i i< };
 
     fn axes(leg: &Leg, at: &Piece) -> Axes {
-        let m = i64::from(at.middle);
-        let r = i64::from(at.half);
-        let x = coordinate(leg.x1, leg.x2, m);
-        let y = coordinate(leg.y1, leg.y2, m);
-        let z = coordinate(leg.z1, leg.z2, m);
-        let dx = change(leg.x1, leg.x2, r);
-        let dy = change(leg.y1, leg.y2, r);
-        let dz = change(leg.z1, leg.z2, r);
         Axes {
-            x: line(x, dx),
-            y: line(y, dy),
-            z: line(z, dz),
+            x: along(leg.x(), *at),
+            y: along(leg.y(), *at),
+            z: along(leg.z(), *at),
         }
     }
 

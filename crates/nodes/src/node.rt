@@ -2,7 +2,8 @@
 ghost use Rattle.std.specs.Prelude.{◌≡◌};
 ghost use Rattle.nodes.specs.Tables.{shape_of};
 
-// One row of the node table: its kind, the numbers of the nodes that it combines, and the numbers of a quadric.
+// One row of the node table: its kind, the numbers of the nodes that it combines, and the numbers of a quadric. A row has any number as its kind, and an enum of
+// the kinds would only repeat `Shape`.
 #[derive(Clone, Copy)]
 pub struct Node {
     pub kind: i64,
@@ -20,7 +21,8 @@ pub struct Node {
     pub k: i64,
 }
 
-// What a node is: a quadric, or one or two nodes combined, which it names by their numbers.
+// What a node is: a quadric, or one or two nodes combined. It names them by their numbers, not by boxes, since they are earlier rows of the table, which several
+// nodes may name, and since a check asks for no memory.
 #[derive(Clone, Copy)]
 pub enum Shape {
     Quadric,

@@ -1,15 +1,16 @@
 // Whole numbers at a half-step.
 ghost use Rattle.std.specs.Prelude.{◌≡◌, ℤ, pos};
 ghost use Rattle.integer.specs.Numbers.{Within};
-ghost use Rattle.nodes.specs.Locations.{whole, whole_axes, whole_axis, whole_quadric, whole_sum, whole_lesser, whole_greater, whole_opposite, WholeFits, WholeHolds};
-ghost use Rattle.nodes.specs.WholeNumbers.{whole_quadric_holds, whole_small};
-ghost use Rattle.std.proofs.Common.{ap, ap₂};
+ghost use Rattle.leg.specs.Places.{coordinate as coordinate_value};
+ghost use Rattle.affine.specs.Fits.{Bounded};
+ghost use Rattle.nodes.specs.Locations.{whole, whole_axes, whole_axis, whole_operations, WholeFits, WholeHolds};
+ghost use Rattle.nodes.specs.WholeNumbers.{whole_related, whole_small};
 
 use crate::arithmetic::Arithmetic;
-use crate::axes::{Axes, coordinate};
+use crate::axes::Axes;
 use crate::node::Node;
 use affine::Form;
-use leg::{HalfStep, Leg};
+use leg::{Coordinate, HalfStep, Leg};
 
 // The arithmetic of whole numbers: the second and third number of a form are 0.
 #[derive(Drop)]
@@ -25,7 +26,16 @@ fn number(z: i64) -> Form
     }
 }
 
-// s D² + 4096 l D, where D is the coordinate `x` from the centre's, `p`, on.
+// A scaled coordinate at a half-step.
+fn along(coordinate: Coordinate, step: HalfStep) -> Form
+    ensures value { result ≡ whole (coordinate_value coordinate.from coordinate.to (pos step.at) (pos 1)) }
+    ensures bounded { Bounded 16777216 result }
+{
+    number(coordinate.at(step))
+}
+
+// s D² + 4096 l D, where D is the coordinate `x` from the centre's, `p`, on. A type for the three columns of one axis would have to be made of each node, and be
+// no plainer.
 fn axis(x: i64, p: i64, s: i64, l: i64) -> i64
     requires { (Within x (pos 16777216)) × ((Within p (pos 4096)) × ((Within s (pos 16)) × (Within l (pos 4096)))) }
     ensures value { result ≡ whole_axis x p s l }
@@ -40,41 +50,21 @@ impl Arithmetic for Whole {
 
     ghost axes_at = { whole_axes };
 
-    ghost quadric_of = { whole_quadric };
-
-    ghost sum_by = { whole_sum };
-
-    ghost lesser_by = { whole_lesser };
-
-    ghost greater_by = { whole_greater };
-
-    ghost opposite_by = { whole_opposite };
+    ghost operations = { whole_operations };
 
     ghost small = { WholeFits };
 
     ghost holds = { WholeHolds };
 
-    ghost quadric_holds = { λ leg at node range. whole_quadric_holds leg at node };
-
-    ghost sum_holds = { λ at u v F G h k. ap₂ whole_sum h k };
-
-    ghost lesser_holds = { λ at u v F G h k. ap₂ whole_lesser h k };
-
-    ghost greater_holds = { λ at u v F G h k. ap₂ whole_greater h k };
-
-    ghost opposite_holds = { λ at u F h. ap whole_opposite h };
+    ghost holding = { λ leg at. whole_related leg at };
 
     ghost all_small = { λ nodes formed leg at i i<. whole_small nodes formed leg at i i< };
 
     fn axes(leg: &Leg, at: &HalfStep) -> Axes {
-        let s = i64::from(at.at);
-        let x = coordinate(leg.x1, leg.x2, s);
-        let y = coordinate(leg.y1, leg.y2, s);
-        let z = coordinate(leg.z1, leg.z2, s);
         Axes {
-            x: number(x),
-            y: number(y),
-            z: number(z),
+            x: along(leg.x(), *at),
+            y: along(leg.y(), *at),
+            z: along(leg.z(), *at),
         }
     }
 

@@ -1,58 +1,31 @@
 // Lists of nodes, validated row by row, and what their nodes are.
 #![tactic(auto)]
 
-ghost use Rattle.std.specs.Prelude.{◌≤◌, length, OnOk};
-ghost use Rattle.nodes.specs.Formed.{WellFormed};
-
-use affine::Form;
-use leg::{HalfStep, Leg, Piece};
-use nodes::{Node, forms_on, reaches, steepnesses, validate, values_at};
+use nodes::{Node, Nodes};
 use refusal::Refusal;
 
 // Validates each node after those before it.
-fn build(nodes: &[Node]) -> Result<(), Refusal>
-    ensures { OnOk result ((length nodes.now ≤ 64) × WellFormed nodes.now) }
-{
+fn build(nodes: &[Node]) -> Result<Nodes<'_>, Refusal> {
     if nodes.len() > 64 {
         return Err(Refusal::SheetFull);
     }
+    // the index ends the slice of the nodes before
     for (i, node) in nodes.iter().enumerate() {
-        validate(&nodes[0..i], node)?;
+        Nodes::new(&nodes[..i]).validate(node)?;
     }
-    Ok(())
+    Ok(Nodes::new(nodes))
 }
 
-// The number of the first refusal, or 0.
-fn refusal_of(nodes: &[Node]) -> u8 {
-    match build(nodes) {
-        Ok(()) => 0,
-        Err(e) => e.number(),
-    }
-}
-
-fn values_of(nodes: &[Node], leg: &Leg, at: i64) -> Result<[Form; 64], Refusal> {
-    build(nodes)?;
-    Ok(values_at(nodes, leg, HalfStep::new(at)?))
-}
-
-fn forms_of(nodes: &[Node], leg: &Leg, middle: i64, half: i64) -> Result<[Form; 64], Refusal> {
-    build(nodes)?;
-    Ok(forms_on(nodes, leg, Piece::new(middle, half)?))
-}
-
-fn reaches_of(nodes: &[Node]) -> Result<[i64; 64], Refusal> {
-    build(nodes)?;
-    Ok(reaches(nodes))
-}
-
-fn steepnesses_of(nodes: &[Node], leg: &Leg) -> Result<[i64; 64], Refusal> {
-    build(nodes)?;
-    Ok(steepnesses(nodes, leg))
+// The number of the first refusal, if there is one.
+fn refusal_of(nodes: &[Node]) -> Option<u8> {
+    build(nodes).err().map(|refusal| refusal.number())
 }
 
 #[cfg(test)]
 mod tests {
     use super::*;
+    use affine::Form;
+    use leg::{HalfStep, Leg, Piece, Point};
     use std::test::Fail;
 
     const NONE: Node = Node {
@@ -94,23 +67,23 @@ mod tests {
             k: 1073741825,
             ..CYLINDER
         };
-        assert_eq!(rt; refusal_of(&[edge]), 0);
-        assert_eq!(rt; refusal_of(&[past]), 10);
+        assert_eq!(rt; refusal_of(&[edge]), None);
+        assert_eq!(rt; refusal_of(&[past]), Some(10));
     }
 
     #[test]
     fn kinds(rt: HostRuntime) {
-        assert_eq!(rt; refusal_of(&[NONE]), 7);
-        assert_eq!(rt; refusal_of(&[CYLINDER, combined(6, 0, 0)]), 7);
-        assert_eq!(rt; refusal_of(&[CYLINDER, combined(5, 0, 0)]), 0);
+        assert_eq!(rt; refusal_of(&[NONE]), Some(7));
+        assert_eq!(rt; refusal_of(&[CYLINDER, combined(6, 0, 0)]), Some(7));
+        assert_eq!(rt; refusal_of(&[CYLINDER, combined(5, 0, 0)]), None);
     }
 
     #[test]
     fn references(rt: HostRuntime) {
-        assert_eq!(rt; refusal_of(&[combined(5, 0, 0)]), 8);
-        assert_eq!(rt; refusal_of(&[CYLINDER, combined(2, 0, 1)]), 8);
-        assert_eq!(rt; refusal_of(&[CYLINDER, combined(3, -1, 0)]), 8);
-        assert_eq!(rt; refusal_of(&[CYLINDER, combined(4, 0, 0)]), 0);
+        assert_eq!(rt; refusal_of(&[combined(5, 0, 0)]), Some(8));
+        assert_eq!(rt; refusal_of(&[CYLINDER, combined(2, 0, 1)]), Some(8));
+        assert_eq!(rt; refusal_of(&[CYLINDER, combined(3, -1, 0)]), Some(8));
+        assert_eq!(rt; refusal_of(&[CYLINDER, combined(4, 0, 0)]), None);
     }
 
     #[test]
@@ -121,9 +94,9 @@ mod tests {
             k: 1,
             ..NONE
         };
-        assert_eq!(rt; refusal_of(&[named]), 9);
-        assert_eq!(rt; refusal_of(&[CYLINDER, level]), 9);
-        assert_eq!(rt; refusal_of(&[CYLINDER, combined(5, 0, 1)]), 9);
+        assert_eq!(rt; refusal_of(&[named]), Some(9));
+        assert_eq!(rt; refusal_of(&[CYLINDER, level]), Some(9));
+        assert_eq!(rt; refusal_of(&[CYLINDER, combined(5, 0, 1)]), Some(9));
     }
 
     #[test]
@@ -137,9 +110,9 @@ mod tests {
             pz: 661,
             ..CYLINDER
         };
-        assert_eq!(rt; refusal_of(&[bent]), 10);
-        assert_eq!(rt; refusal_of(&[slant]), 10);
-        assert_eq!(rt; refusal_of(&[high]), 10);
+        assert_eq!(rt; refusal_of(&[bent]), Some(10));
+        assert_eq!(rt; refusal_of(&[slant]), Some(10));
+        assert_eq!(rt; refusal_of(&[high]), Some(10));
     }
 
     // The reach 2^54 doubled six times is 2^60.
@@ -160,11 +133,11 @@ mod tests {
             combined(2, 5, 5),
             combined(5, 6, 0),
         ];
-        assert_eq!(rt; refusal_of(&list), 0);
+        assert_eq!(rt; refusal_of(&list), None);
         list[7] = combined(2, 6, 0);
-        assert_eq!(rt; refusal_of(&list), 11);
+        assert_eq!(rt; refusal_of(&list), Some(11));
         list[7] = combined(3, 6, 6);
-        assert_eq!(rt; refusal_of(&list), 11);
+        assert_eq!(rt; refusal_of(&list), Some(11));
     }
 
     #[test]
@@ -176,21 +149,22 @@ mod tests {
             combined(4, 0, 1),
             combined(2, 0, 1),
         ];
-        let leg = Leg::new(-100, 10, 100, 100, 10, 100)?;
-        let start = values_of(&list, &leg, 0)?;
+        let nodes = build(&list)?;
+        let leg = Leg::new(Point::new(-100, 10, 100), Point::new(100, 10, 100))?;
+        let start = nodes.values_at(&leg, HalfStep::try_from(0)?);
         assert_eq!(rt; start[0].u0, 167772160000);
         assert_eq!(rt; start[1].u0, -167772160000);
         assert_eq!(rt; start[2].u0, -167772160000);
         assert_eq!(rt; start[3].u0, 167772160000);
         assert_eq!(rt; start[4].u0, 0);
-        let middle = values_of(&list, &leg, 2048)?;
+        let middle = nodes.values_at(&leg, HalfStep::try_from(2048)?);
         assert_eq!(rt; middle[0].u0, 0);
         let form = Form {
             u0: 0,
             u1: 0,
             u2: 167772160000,
         };
-        let whole = forms_of(&list, &leg, 2048, 2048)?;
+        let whole = nodes.forms_on(&leg, Piece::new(2048, 2048)?);
         assert_eq!(rt; whole[0], form);
         assert_eq!(rt; whole[1], form);
         assert_eq!(rt; whole[2], form);
@@ -207,12 +181,13 @@ mod tests {
             combined(2, 0, 1),
             combined(5, 2, 0),
         ];
-        let reach = reaches_of(&list)?;
+        let nodes = build(&list)?;
+        let reach = nodes.reaches();
         assert_eq!(rt; reach[0], 2251801491406848);
         assert_eq!(rt; reach[1], 2251801491408896);
         assert_eq!(rt; reach[3], 4503602982815744);
-        let leg = Leg::new(-100, 10, 100, 100, 10, 100)?;
-        let steepness = steepnesses_of(&list, &leg)?;
+        let leg = Leg::new(Point::new(-100, 10, 100), Point::new(100, 10, 100))?;
+        let steepness = nodes.steepnesses(&leg);
         assert_eq!(rt; steepness[0], 13421772800);
         assert_eq!(rt; steepness[1], 13421772801);
         assert_eq!(rt; steepness[3], 26843545601);

@@ -1,7 +1,9 @@
 -- The refusals by number, the layers of the numbers, and the fault.
-use Rattle.std.specs.Prelude.{ℕ, cond, leb}
+use Rattle.std.specs.Prelude.{◌≡◌, ℕ, ◌-◌, cond, leb, List, [], ◌∷◌, ◌++◌, codes, decimal, slice_index_or, refl}
 use Rattle.refusal.specs.declared.Refusal.{Refusal}
 use Rattle.refusal.specs.declared.Refusal.TheVariants.{TextStart, LineEnd, FieldCount, ColumnName, FieldValue, SheetFull, NodeKind, NodeReference, UnusedColumn, QuadricRange, NodeReach, NoNode, NodeInUse, AreaNumber, AreaPublished, AreaNotPublished, AreaNode, AreaSwitch, CoordinateRange, SamePoint, LatticeSize, HeightRange, LayerReach, HalfStepRange, PieceShape}
+use Rattle.refusal.specs.declared.layer.Layer.{Layer}
+use Rattle.refusal.specs.declared.layer.Layer.TheVariants.{Line, Value, Sheet, Field}
 use Rattle.refusal.specs.declared.Fault.{Fault}
 
 -- each refusal's number
@@ -32,10 +34,33 @@ number_of LayerReach = 23
 number_of HalfStepRange = 24
 number_of PieceShape = 25
 
+-- all refusals, in the order of their numbers
+abbrev pub refusals : List Refusal
+refusals = TextStart ∷ LineEnd ∷ FieldCount ∷ ColumnName ∷ FieldValue ∷ SheetFull ∷ NodeKind ∷ NodeReference ∷ UnusedColumn ∷ QuadricRange ∷ NodeReach ∷ NoNode ∷ NodeInUse ∷ AreaNumber ∷ AreaPublished ∷ AreaNotPublished ∷ AreaNode ∷ AreaSwitch ∷ CoordinateRange ∷ SamePoint ∷ LatticeSize ∷ HeightRange ∷ LayerReach ∷ HalfStepRange ∷ PieceShape ∷ []
+
+-- the refusal with this number, from 1 to 25
+abbrev pub refusal_of : ℕ → Refusal
+refusal_of n = slice_index_or refusals (n - 1) PieceShape
+
+pub refusal_of-number_of : (refusal : Refusal) → refusal_of (number_of refusal) ≡ refusal
+refusal_of-number_of TextStart = refl
+refusal_of-number_of _ = refl
+
 -- the layer of a number: 1 line, to 4; 2 value, to 5; 3 sheet, to 20; 4 field, above
 abbrev pub layer_of : ℕ → ℕ
 layer_of n = cond (leb n 4) 1 (cond (leb n 5) 2 (cond (leb n 20) 3 4))
 
--- the fault with this number, its layer, and its place in the text
-abbrev pub fault : ℕ → ℕ → ℕ → Fault
-fault n l c = record { number = n; layer = layer_of n; line = l; column = c }
+-- each layer's number
+abbrev pub number_of_layer : Layer → ℕ
+number_of_layer Line = 1
+number_of_layer Value = 2
+number_of_layer Sheet = 3
+number_of_layer Field = 4
+
+-- the fault with this refusal, and its place in the text
+abbrev pub fault : Refusal → ℕ → ℕ → Fault
+fault r l c = record { refusal = r; line = l; column = c }
+
+-- what is printed of a fault: number, layer, line and column
+abbrev pub fault_row : Fault → List ℕ
+fault_row f = decimal (number_of f.refusal) ++ (codes " " ++ (decimal (layer_of (number_of f.refusal)) ++ (codes " " ++ (decimal f.line ++ (codes " " ++ decimal f.column)))))

@@ -1,61 +1,66 @@
 #![tactic(auto)]
 
-ghost use Rattle.std.specs.Prelude.{◌≡◌, ◌≤◌};
-ghost use Rattle.refusal.specs.Numbers.{number_of, layer_of, fault};
+ghost use Rattle.std.specs.Prelude.{◌≡◌, ◌≤◌, Some};
+ghost use Rattle.refusal.specs.Numbers.{number_of, layer_of, number_of_layer, fault, fault_row};
+
+mod layer;
+
+pub use layer::Layer;
+use std::fmt;
 
 // Why a call or a text is sent back. docs/RULES.md has the list with its numbers and their order.
 #[derive(Clone, Copy, PartialEq, Eq, Debug)]
 pub enum Refusal {
     // the text is empty, over 65536 bytes, or its first byte is not a to z
-    TextStart,
+    TextStart = 1,
     // the line has no line feed, or over 200 bytes before it
-    LineEnd,
+    LineEnd = 2,
     // the line has not as many fields as the table
-    FieldCount,
+    FieldCount = 3,
     // a names field is no name of the table, or repeats one
-    ColumnName,
+    ColumnName = 4,
     // a value field is not a whole number
-    FieldValue,
+    FieldValue = 5,
     // add: the sheet has 64 nodes
-    SheetFull,
+    SheetFull = 6,
     // add: the kind is not 1 to 5
-    NodeKind,
+    NodeKind = 7,
     // add: a needed a or b is not an earlier node
-    NodeReference,
+    NodeReference = 8,
     // add: a column that the kind does not use is not 0
-    UnusedColumn,
+    UnusedColumn = 9,
     // add: a quadric's number is outside its range
-    QuadricRange,
+    QuadricRange = 10,
     // add: the reach exceeds 2^60
-    NodeReach,
+    NodeReach = 11,
     // take back: there is no node
-    NoNode,
+    NoNode = 12,
     // take back: a published area has the last node
-    NodeInUse,
+    NodeInUse = 13,
     // publish, switch, strike: the area number is not 0 to 15
-    AreaNumber,
+    AreaNumber = 14,
     // publish: the area is already published
-    AreaPublished,
+    AreaPublished = 15,
     // switch, strike: the area is not published
-    AreaNotPublished,
+    AreaNotPublished = 16,
     // publish: the node is not in the sheet
-    AreaNode,
+    AreaNode = 17,
     // publish, switch: on is not 0 or 1
-    AreaSwitch,
+    AreaSwitch = 18,
     // check: a coordinate is outside its range
-    CoordinateRange,
+    CoordinateRange = 19,
     // check: start and end are the same point
-    SamePoint,
+    SamePoint = 20,
     // lattice: there are not 16641 heights
-    LatticeSize,
+    LatticeSize = 21,
     // lattice: a height is not -16 to 300
-    HeightRange,
+    HeightRange = 22,
     // layer: the reach exceeds 2^60 + 2^20
-    LayerReach,
+    LayerReach = 23,
     // a half-step is not 0 to 4096
-    HalfStepRange,
+    HalfStepRange = 24,
     // a piece is not one that halving a leg gives
-    PieceShape,
+    PieceShape = 25,
 }
 
 impl Refusal {
@@ -66,68 +71,65 @@ impl Refusal {
         ensures high { result ≤ 25 }
         ensures own { (other : Refusal) → number_of other ≡ result → other ≡ self }
     {
-        match self {
-            Refusal::TextStart => 1,
-            Refusal::LineEnd => 2,
-            Refusal::FieldCount => 3,
-            Refusal::ColumnName => 4,
-            Refusal::FieldValue => 5,
-            Refusal::SheetFull => 6,
-            Refusal::NodeKind => 7,
-            Refusal::NodeReference => 8,
-            Refusal::UnusedColumn => 9,
-            Refusal::QuadricRange => 10,
-            Refusal::NodeReach => 11,
-            Refusal::NoNode => 12,
-            Refusal::NodeInUse => 13,
-            Refusal::AreaNumber => 14,
-            Refusal::AreaPublished => 15,
-            Refusal::AreaNotPublished => 16,
-            Refusal::AreaNode => 17,
-            Refusal::AreaSwitch => 18,
-            Refusal::CoordinateRange => 19,
-            Refusal::SamePoint => 20,
-            Refusal::LatticeSize => 21,
-            Refusal::HeightRange => 22,
-            Refusal::LayerReach => 23,
-            Refusal::HalfStepRange => 24,
-            Refusal::PieceShape => 25,
-        }
+        self as u8
     }
-}
 
-// The layer that a refusal's number belongs to: 1 line, 2 value, 3 sheet, 4 field.
-fn layer(number: u8) -> u8
-    ensures { result ≡ layer_of number }
-{
-    match number {
-        0..=4 => 1,
-        5 => 2,
-        6..=20 => 3,
-        _ => 4,
+    // The layer that refuses so.
+    pub fn layer(self) -> Layer
+        ensures { number_of_layer result ≡ layer_of (number_of self) }
+    {
+        match self.number() {
+            0..=4 => Layer::Line,
+            5 => Layer::Value,
+            6..=20 => Layer::Sheet,
+            _ => Layer::Field,
+        }
     }
 }
 
 // A refusal with its place in a text. Line and column count from 1 and are 0 where there is none.
 #[derive(Clone, Copy, PartialEq, Eq, Debug)]
 pub struct Fault {
-    pub number: u8,
-    pub layer: u8,
+    pub refusal: Refusal,
     pub line: usize,
     pub column: usize,
 }
 
 impl Fault {
     pub fn new(refusal: Refusal, line: usize, column: usize) -> Fault
-        ensures { result ≡ fault (number_of refusal) line column }
+        ensures { result ≡ fault refusal line column }
     {
-        let number = refusal.number();
-        let layer = layer(number);
         Fault {
-            number,
-            layer,
+            refusal,
             line,
             column,
         }
+    }
+
+    // The number of the refusal.
+    pub fn number(self) -> u8
+        ensures { result ≡ number_of self.refusal }
+    {
+        self.refusal.number()
+    }
+
+    // The layer of the refusal.
+    pub fn layer(self) -> Layer
+        ensures { number_of_layer result ≡ layer_of (number_of self.refusal) }
+    {
+        self.refusal.layer()
+    }
+}
+
+// The fault's numbers: refusal, layer, line and column.
+impl fmt::Display for Fault {
+    ghost output = { λ f. Some (fault_row f) };
+
+    fn fmt<W: fmt::Write>(&self, f: &mut fmt::Formatter<W>) -> fmt::Result {
+        let number = self.number();
+        let layer = self.layer().number();
+        let line = self.line;
+        let column = self.column;
+        write!(f, "{number} {layer} {line} {column}")
     }
 }

@@ -2,6 +2,7 @@
 
 #[cfg(test)]
 mod tests {
+    use files::Files;
     use report::report;
     use std::test::Fail;
 
@@ -67,8 +68,16 @@ mod tests {
     #[test]
     fn first_fault_alone(rt: HostRuntime) -> Result<(), Fail> {
         for case in &FAULTS {
-            let output = report(rt.alloc(), case.nodes, case.areas, b"", case.legs)?;
-            assert!(rt; output.faulty);
+            let output = report(
+                rt.alloc(),
+                Files {
+                    nodes: case.nodes,
+                    areas: case.areas,
+                    terrain: b"",
+                    legs: case.legs,
+                },
+            )?;
+            assert!(rt; output.fault.is_some());
             assert!(rt; output.text.as_slice() == case.text);
         }
         Ok(())
@@ -77,10 +86,18 @@ mod tests {
     #[test]
     fn what_was_read(rt: HostRuntime) -> Result<(), Fail> {
         let areas = b"on area node\n1 3 -7\n0 4 2147483647\n";
-        let output = report(rt.alloc(), NODES, areas, b"\x00\x0a\x00", LEGS)?;
+        let output = report(
+            rt.alloc(),
+            Files {
+                nodes: NODES,
+                areas,
+                terrain: b"\x00\x0a\x00",
+                legs: LEGS,
+            },
+        )?;
         let told =
             b"nodes.txt\ncolumns as written: kind a b px py pz sx sy sz lx ly lz k\nkind a b px py pz sx sy sz lx ly lz k\nareas.txt\ncolumns as written: on area node\narea node on\n3 -7 1\n4 2147483647 0\nterrain.bin\n3 bytes\nlegs.txt\ncolumns as written: x1 y1 z1 x2 y2 z2\nx1 y1 z1 x2 y2 z2\n";
-        assert!(rt; !output.faulty);
+        assert!(rt; output.fault.is_none());
         assert!(rt; output.text.as_slice() == told.as_slice());
         Ok(())
     }

@@ -7,6 +7,7 @@ use Rattle.std.proofs.lemmas.Int.{clamps}
 use Rattle.std.proofs.lemmas.Bool.{cond-true, cond-false}
 use Rattle.refusal.specs.declared.Refusal.{Refusal}
 use Rattle.refusal.specs.Numbers.{number_of}
+use Rattle.leg.specs.declared.shapes.Point.{Point}
 use Rattle.leg.specs.declared.shapes.Leg.{Leg}
 use Rattle.leg.specs.Making.{leg_refusal}
 use Rattle.field.specs.Meaning.{Meaning, Laws, reach_bound}
@@ -93,8 +94,8 @@ module _ (sheet : SheetData) (ok : Standing sheet) where
 
 -- ---- the promise
 
-module _ (joint : Joint) (sheet : SheetData) (ok : Standing sheet) (lawful : LawfulJoint joint) (x1 y1 z1 x2 y2 z2 : ℤ) where
-  shown_of : (v : Verdict) → Judged (whole_of joint sheet) x1 y1 z1 x2 y2 z2 v → Shown joint sheet x1 y1 z1 x2 y2 z2 (row_of v)
+module _ (joint : Joint) (sheet : SheetData) (ok : Standing sheet) (lawful : LawfulJoint joint) (start end : Point) where
+  shown_of : (v : Verdict) → Judged (whole_of joint sheet) start end v → Shown joint sheet start end (row_of v)
   shown_of v j = record {
     leg = j.leg;
     joins = j.joins;
@@ -108,28 +109,28 @@ module _ (joint : Joint) (sheet : SheetData) (ok : Standing sheet) (lawful : Law
       above : (a b c : ℤ) → pos 0 <ℤ a → a ≤ℤ b → b ≤ℤ c → pos 0 <ℤ c
       above a b c h k l = omega (arith, ints)
 
-  by_outcome : le_z (whole_of joint sheet).reach reach_bound ≡ true → (o : Result Verdict ℕ) → outcome_of x1 y1 z1 x2 y2 z2 (whole_of joint sheet) ≡ o →
-      (row : Row) → outcome o ≡ checked row → Shown joint sheet x1 y1 z1 x2 y2 z2 row
+  by_outcome : le_z (whole_of joint sheet).reach reach_bound ≡ true → (o : Result Verdict ℕ) → outcome_of start end (whole_of joint sheet) ≡ o →
+      (row : Row) → outcome o ≡ checked row → Shown joint sheet start end row
   by_outcome limit (Ok v) e row d =
-      subst (λ (r : Row). Shown joint sheet x1 y1 z1 x2 y2 z2 r) (same_row d)
-      (shown_of v (outcome_judged x1 y1 z1 x2 y2 z2 (whole_of joint sheet) (whole_laws sheet ok joint lawful limit) v e))
+      subst (λ (r : Row). Shown joint sheet start end r) (same_row d)
+      (shown_of v (outcome_judged start end (whole_of joint sheet) (whole_laws sheet ok joint lawful limit) v e))
   by_outcome limit (Err n) e row d = absurd (refused_is_not_checked d)
 
-  by_limit : (b : Bool) → le_z (whole_of joint sheet).reach reach_bound ≡ b → (row : Row) → cond b (outcome (outcome_of x1 y1 z1 x2 y2 z2 (whole_of joint sheet))) (refused 23) ≡ checked row →
-      Shown joint sheet x1 y1 z1 x2 y2 z2 row
-  by_limit true limit row d = by_outcome limit (outcome_of x1 y1 z1 x2 y2 z2 (whole_of joint sheet)) refl row d
+  by_limit : (b : Bool) → le_z (whole_of joint sheet).reach reach_bound ≡ b → (row : Row) → cond b (outcome (outcome_of start end (whole_of joint sheet))) (refused 23) ≡ checked row →
+      Shown joint sheet start end row
+  by_limit true limit row d = by_outcome limit (outcome_of start end (whole_of joint sheet)) refl row d
   by_limit false limit row d = absurd (refused_is_not_checked d)
 
-  no_23 : (o : Result Verdict ℕ) → outcome_of x1 y1 z1 x2 y2 z2 (whole_of joint sheet) ≡ o → outcome o ≡ refused 23 → ⊥
+  no_23 : (o : Result Verdict ℕ) → outcome_of start end (whole_of joint sheet) ≡ o → outcome o ≡ refused 23 → ⊥
   no_23 (Ok v) e d = checked_is_not_refused d
-  no_23 (Err n) e d = let few = outcome_refused x1 y1 z1 x2 y2 z2 (whole_of joint sheet) n e in let same : n ≡ 23 = cc in omega arith
+  no_23 (Err n) e d = let few = outcome_refused start end (whole_of joint sheet) n e in let same : n ≡ 23 = cc in omega arith
 
-  by_far : (b : Bool) → le_z (whole_of joint sheet).reach reach_bound ≡ b → cond b (outcome (outcome_of x1 y1 z1 x2 y2 z2 (whole_of joint sheet))) (refused 23) ≡ refused 23 →
+  by_far : (b : Bool) → le_z (whole_of joint sheet).reach reach_bound ≡ b → cond b (outcome (outcome_of start end (whole_of joint sheet))) (refused 23) ≡ refused 23 →
       pos 1152921504606846976 <ℤ joint_reach joint
-  by_far true limit d = absurd (no_23 (outcome_of x1 y1 z1 x2 y2 z2 (whole_of joint sheet)) refl d)
+  by_far true limit d = absurd (no_23 (outcome_of start end (whole_of joint sheet)) refl d)
   by_far false limit d = far sheet ok joint limit
 
-  pub kept_of : (answer : Answer) → answer ≡ check_answer joint sheet x1 y1 z1 x2 y2 z2 → Kept joint sheet x1 y1 z1 x2 y2 z2 answer
+  pub kept_of : (answer : Answer) → answer ≡ check_answer joint sheet start end → Kept joint sheet start end answer
   kept_of answer e = record {
     exact = e;
     only_far = λ d. by_far (le_z (whole_of joint sheet).reach reach_bound) refl (sym e ∙ d);
@@ -139,21 +140,21 @@ module _ (joint : Joint) (sheet : SheetData) (ok : Standing sheet) (lawful : Law
 -- ---- what the code answers
 
 -- what `check` ensures of its result is the outcome of the definition
-pub found_is : (field : Meaning) (x1 y1 z1 x2 y2 z2 : ℤ) (r : Result Verdict Refusal) → MatchResult r (λ v. Judged field x1 y1 z1 x2 y2 z2 v) (λ e. number_of e ≡ leg_refusal x1 y1 z1 x2 y2 z2) →
-    found r ≡ outcome (outcome_of x1 y1 z1 x2 y2 z2 field)
-found_is field x1 y1 z1 x2 y2 z2 (Ok v) judged = sym (ap outcome (judged_outcome x1 y1 z1 x2 y2 z2 field v judged))
-found_is field x1 y1 z1 x2 y2 z2 (Err e) fits =
-    ap refused fits ∙ sym (ap outcome (refused_outcome x1 y1 z1 x2 y2 z2 field (subst (λ (n : ℕ). 1 ≤ n) fits (some_number e))))
+pub found_is : (field : Meaning) (start end : Point) (r : Result Verdict Refusal) → MatchResult r (λ v. Judged field start end v) (λ e. number_of e ≡ leg_refusal start end) →
+    found r ≡ outcome (outcome_of start end field)
+found_is field start end (Ok v) judged = sym (ap outcome (judged_outcome start end field v judged))
+found_is field start end (Err e) fits =
+    ap refused fits ∙ sym (ap outcome (refused_outcome start end field (subst (λ (n : ℕ). 1 ≤ n) fits (some_number e))))
 
-module _ (field : Meaning) (x1 y1 z1 x2 y2 z2 : ℤ) where
-  pub near_answer : field.reach ≤ℤ reach_bound → outcome (outcome_of x1 y1 z1 x2 y2 z2 field) ≡ limited_answer field x1 y1 z1 x2 y2 z2
-  near_answer h = sym (cond-true (le_z field.reach reach_bound) (outcome (outcome_of x1 y1 z1 x2 y2 z2 field)) (refused 23) (tested field.reach h))
+module _ (field : Meaning) (start end : Point) where
+  pub near_answer : field.reach ≤ℤ reach_bound → outcome (outcome_of start end field) ≡ limited_answer field start end
+  near_answer h = sym (cond-true (le_z field.reach reach_bound) (outcome (outcome_of start end field)) (refused 23) (tested field.reach h))
     where
       tested : (r : ℤ) → r ≤ℤ reach_bound → le_z r reach_bound ≡ true
       tested r h = grind (arith, ints)
 
-  pub far_answer : (field.reach ≤ℤ reach_bound → ⊥) → refused 23 ≡ limited_answer field x1 y1 z1 x2 y2 z2
-  far_answer over = sym (cond-false (le_z field.reach reach_bound) (outcome (outcome_of x1 y1 z1 x2 y2 z2 field)) (refused 23) (failed (le_z field.reach reach_bound) refl))
+  pub far_answer : (field.reach ≤ℤ reach_bound → ⊥) → refused 23 ≡ limited_answer field start end
+  far_answer over = sym (cond-false (le_z field.reach reach_bound) (outcome (outcome_of start end field)) (refused 23) (failed (le_z field.reach reach_bound) refl))
     where
       passed : (r : ℤ) → le_z r reach_bound ≡ true → r ≤ℤ reach_bound
       passed r t = omega (arith, ints)

@@ -1,11 +1,13 @@
 -- Lists of calls: what one more call adds, and what each check among them keeps.
-use Rattle.std.proofs.Common.{◌≡◌, ℕ, zero, suc, ◌+◌, ◌<◌, eqb, List, [], ◌∷◌, ◌++◌, map, length, get_or, take, ℤ, fold, sym, refl, ap, ◌∙◌, ap₂, add-one, arith}
+use Rattle.std.proofs.Common.{◌≡◌, ℕ, zero, suc, ◌+◌, ◌<◌, eqb, List, [], ◌∷◌, ◌++◌, map, length, get_or, take, Result, fold, sym, refl, ap, ◌∙◌, ap₂, add-one, arith}
 use mathlib.Core.List.{map-append}
 use Rattle.std.proofs.lemmas.List.Sums.{fold_more}
 use Rattle.std.proofs.lemmas.Bool.{cond_both}
 use Rattle.sheet.specs.declared.call.Call.{Call}
 use Rattle.sheet.specs.declared.call.Call.TheVariants.{Check}
-use Rattle.sheet.specs.declared.call.Reply.{Reply}
+use Rattle.refusal.specs.declared.Refusal.{Refusal}
+use Rattle.leg.specs.declared.shapes.Point.{Point}
+use Rattle.sheet.specs.declared.call.Success.{Success}
 use Rattle.sheet.specs.Calls.{SheetData, empty_sheet, call_refusal, after, built}
 use Rattle.sheet.specs.Standing.{Standing}
 use Rattle.sheet.specs.Answers.{Answer, taken, replied, answer_of, answers_to, field_of}
@@ -31,26 +33,26 @@ pub ran_of : (calls : List Call) (answers : List Answer) (sheet : SheetData) →
 ran_of calls answers sheet left answered = record {
   left = left;
   answered = answered;
-  kept = λ before rest x1 y1 z1 x2 y2 z2 e.
-      kept_of alone (built before) (built_standing before) tt x1 y1 z1 x2 y2 z2 _
+  kept = λ before rest start end e.
+      kept_of alone (built before) (built_standing before) tt start end _
       (ap (λ (l : List Answer). get_or l (length before) (taken 0)) (answered ∙ ap (answers_to empty_sheet) e)
-      ∙ answer_at empty_sheet before (Check x1 y1 z1 x2 y2 z2) rest (taken 0)
-      ∙ near_answer (field_of (built before)) x1 y1 z1 x2 y2 z2 (alone_in_limit (built before) (built_standing before)));
+      ∙ answer_at empty_sheet before (Check start end) rest (taken 0)
+      ∙ near_answer (field_of (built before)) start end (alone_in_limit (built before) (built_standing before)));
 }
 
 -- a check leaves the sheet, and answers as the rules say of a check
-pub check_leaves : (sheet : SheetData) (x1 y1 z1 x2 y2 z2 : ℤ) → sheet ≡ after sheet (Check x1 y1 z1 x2 y2 z2)
-check_leaves sheet x1 y1 z1 x2 y2 z2 = cond_both {A = SheetData} (eqb (call_refusal sheet (Check x1 y1 z1 x2 y2 z2)) 0) sheet sheet (λ (s : SheetData). sheet ≡ s) (λ _. refl) (λ _. refl)
+pub check_leaves : (sheet : SheetData) (start end : Point) → sheet ≡ after sheet (Check start end)
+check_leaves sheet start end = cond_both {A = SheetData} (eqb (call_refusal sheet (Check start end)) 0) sheet sheet (λ (s : SheetData). sheet ≡ s) (λ _. refl) (λ _. refl)
 
-pub check_answers : (sheet : SheetData) → Standing sheet → (x1 y1 z1 x2 y2 z2 : ℤ) (answer : Answer) → Kept alone sheet x1 y1 z1 x2 y2 z2 answer → answer ≡ answer_of sheet (Check x1 y1 z1 x2 y2 z2)
-check_answers sheet ok x1 y1 z1 x2 y2 z2 answer kept = kept.exact ∙ sym (near_answer (field_of sheet) x1 y1 z1 x2 y2 z2 (alone_in_limit sheet ok))
+pub check_answers : (sheet : SheetData) → Standing sheet → (start end : Point) (answer : Answer) → Kept alone sheet start end answer → answer ≡ answer_of sheet (Check start end)
+check_answers sheet ok start end answer kept = kept.exact ∙ sym (near_answer (field_of sheet) start end (alone_in_limit sheet ok))
 
 -- what one turn of the loop over the calls adds
 module _ (calls : List Call) (i : ℕ) (i< : i < length calls) (before : SheetData) (d : Call) (was : before ≡ fold after empty_sheet (take i calls)) where
   pub sheet_next : (left : SheetData) → left ≡ after before (get_or calls i d) → left ≡ fold after empty_sheet (take (i + 1) calls)
   sheet_next left e = e ∙ ap (λ (s : SheetData). after s (get_or calls i d)) was ∙ sym (fold_more after empty_sheet calls i d i<)
 
-  pub answers_next : (replies more : List Reply) (reply : Reply) → map replied replies ≡ answers_to empty_sheet (take i calls) → more ≡ replies ++ (reply ∷ []) →
+  pub answers_next : (replies more : List (Result Success Refusal)) (reply : Result Success Refusal) → map replied replies ≡ answers_to empty_sheet (take i calls) → more ≡ replies ++ (reply ∷ []) →
       replied reply ≡ answer_of before (get_or calls i d) → map replied more ≡ answers_to empty_sheet (take (i + 1) calls)
   answers_next replies more reply so_far e answer =
       ap (map replied) e

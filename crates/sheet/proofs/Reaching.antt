@@ -1,5 +1,5 @@
 -- Every sheet is built by some list of calls.
-use Rattle.std.proofs.Common.{◌≡◌, ℕ, suc, ◌+◌, ◌<◌, ◌≤◌, Bool, true, false, cond, List, [], ◌∷◌, ◌++◌, map, length, set, replicate, ℤ, pos, is_some, Some, None, fold, Option, sym, refl, ap, ◌∙◌, subst, ap₂, append_assoc, add-zero, add-suc, arith, length-append}
+use Rattle.std.proofs.Common.{◌≡◌, ℕ, suc, ◌+◌, ◌<◌, ◌≤◌, Bool, true, false, cond, List, [], ◌∷◌, ◌++◌, map, length, set, replicate, pos, is_some, Some, None, fold, Option, sym, refl, ap, ◌∙◌, subst, ap₂, append_assoc, add-zero, add-suc, arith, length-append}
 use borrow.Author.Differences.{ints}
 use lib.Seq.{get_or-append_seam, set-append_seam, take-append_seam}
 use lib.Signed.{le_z, lt_z}
@@ -9,6 +9,7 @@ use Rattle.nodes.specs.Formed.{no_node}
 use Rattle.nodes.specs.Validation.{refers, node_refusal}
 use Rattle.areas.specs.declared.area.Area.{Area}
 use Rattle.areas.specs.Table.{needed, AllStand, Accepted}
+use Rattle.leg.specs.declared.shapes.Point.{Point}
 use Rattle.sheet.specs.declared.call.Call.{Call}
 use Rattle.sheet.specs.declared.call.Call.TheVariants.{Add, Publish}
 use Rattle.sheet.specs.Calls.{SheetData, empty_sheet, names_area, is_on_or_off, is_on, published, call_refusal, after, built}
@@ -132,9 +133,9 @@ reached sheet ok =
     (add_nodes [] sheet.nodes (replicate 16 None) ok.accepted ok.few ∙ with_slots (ap (λ (n : ℕ). replicate n None) (sym ok.sixteen)))
     ∙ publish_areas sheet.nodes [] sheet.slots (let e = ok.sixteen in omega arith) ok.stands)
 
-pub live_of : (joint : Joint) (sheet : SheetData) → Standing sheet → (x1 y1 z1 x2 y2 z2 : ℤ) (answer : Answer) → Kept joint sheet x1 y1 z1 x2 y2 z2 answer → Live joint sheet x1 y1 z1 x2 y2 z2 answer
-live_of joint sheet ok x1 y1 z1 x2 y2 z2 answer kept = record {
+pub live_of : (joint : Joint) (sheet : SheetData) → Standing sheet → (start end : Point) (answer : Answer) → Kept joint sheet start end answer → Live joint sheet start end answer
+live_of joint sheet ok start end answer kept = record {
   kept = kept;
   reached = (calls_for sheet, reached sheet ok);
-  always = λ calls e. subst (λ (s : SheetData). Kept joint s x1 y1 z1 x2 y2 z2 answer) e kept;
+  always = λ calls e. subst (λ (s : SheetData). Kept joint s start end answer) e kept;
 }

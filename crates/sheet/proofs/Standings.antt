@@ -112,7 +112,7 @@ module _ (sheet : SheetData) (ok : Standing sheet) where
     stands = stands_set (length sheet.nodes) sheet.slots (nat_abs area) None (omega arith) ok.stands;
     accepted = ok.accepted;
   }
-  standing_changed (Check x1 y1 z1 x2 y2 z2) e = ok
+  standing_changed (Check start end) e = ok
 
   pub standing_after : (call : Call) → Standing (after sheet call)
   standing_after call = cond_both {A = SheetData} (eqb (call_refusal sheet call) 0) (changed sheet call) sheet Standing (λ t. standing_changed call (eqb-true (call_refusal sheet call) 0 t)) (λ _. ok)

@@ -9,8 +9,8 @@ use Rattle.leg_check.specs.Outcome.{outcome_of}
 use Rattle.areas.specs.Fields.{field_over}
 use Rattle.sheet.specs.declared.call.Call.{Call}
 use Rattle.sheet.specs.declared.call.Call.TheVariants.{Add, TakeBack, Publish, Switch, Strike, Check}
-use Rattle.sheet.specs.declared.call.Reply.{Reply}
-use Rattle.sheet.specs.declared.call.Reply.TheVariants.{Taken, Refused, Checked}
+use Rattle.sheet.specs.declared.call.Success.{Success}
+use Rattle.sheet.specs.declared.call.Success.TheVariants.{Taken, Checked}
 use Rattle.sheet.specs.Calls.{SheetData, call_refusal, after}
 
 -- the number of a node or an area, the number of a refusal, or what a check found
@@ -29,10 +29,10 @@ abbrev pub found : Result Verdict Refusal → Answer
 found (Ok verdict) = checked (row_of verdict)
 found (Err refusal) = refused (number_of refusal)
 
-abbrev pub replied : Reply → Answer
-replied (Taken number) = taken number
-replied (Refused refusal) = refused (number_of refusal)
-replied (Checked verdict) = checked (row_of verdict)
+abbrev pub replied : Result Success Refusal → Answer
+replied (Ok (Taken number)) = taken number
+replied (Ok (Checked verdict)) = checked (row_of verdict)
+replied (Err refusal) = refused (number_of refusal)
 
 -- ---- what the rules answer
 
@@ -43,7 +43,7 @@ number_for sheet TakeBack = length sheet.nodes - 1
 number_for sheet (Publish area node on) = unsigned_abs area
 number_for sheet (Switch area on) = unsigned_abs area
 number_for sheet (Strike area) = unsigned_abs area
-number_for sheet (Check x1 y1 z1 x2 y2 z2) = 0
+number_for sheet (Check start end) = 0
 
 -- of a call that is no check
 abbrev pub done : SheetData → Call → Answer
@@ -63,7 +63,7 @@ answer_of sheet TakeBack = done sheet TakeBack
 answer_of sheet (Publish area node on) = done sheet (Publish area node on)
 answer_of sheet (Switch area on) = done sheet (Switch area on)
 answer_of sheet (Strike area) = done sheet (Strike area)
-answer_of sheet (Check x1 y1 z1 x2 y2 z2) = outcome (outcome_of x1 y1 z1 x2 y2 z2 (field_of sheet))
+answer_of sheet (Check start end) = outcome (outcome_of start end (field_of sheet))
 
 -- the answers to a list of calls, each on the sheet that those before it left
 abbrev pub answers_to : SheetData → List Call → List Answer

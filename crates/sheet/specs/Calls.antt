@@ -41,7 +41,7 @@ call_refusal sheet (Publish area node on) =
     cond (names_area area) (cond (published sheet area) 15 (cond (refers (length sheet.nodes) node) (cond (is_on_or_off on) 0 18) 17)) 14
 call_refusal sheet (Switch area on) = cond (names_area area) (cond (published sheet area) (cond (is_on_or_off on) 0 18) 16) 14
 call_refusal sheet (Strike area) = cond (names_area area) (cond (published sheet area) 0 16) 14
-call_refusal sheet (Check x1 y1 z1 x2 y2 z2) = leg_refusal x1 y1 z1 x2 y2 z2
+call_refusal sheet (Check start end) = leg_refusal start end
 
 -- ---- what a call does
 
@@ -60,7 +60,7 @@ changed sheet TakeBack = record { nodes = take (length sheet.nodes - 1) sheet.no
 changed sheet (Publish area node on) = record { nodes = sheet.nodes; slots = slice_set sheet.slots (unsigned_abs area) (Some (record { node = unsigned_abs node; on = is_on on })) }
 changed sheet (Switch area on) = record { nodes = sheet.nodes; slots = slice_set sheet.slots (unsigned_abs area) (switched (is_on on) (slice_index_or sheet.slots (unsigned_abs area) None)) }
 changed sheet (Strike area) = record { nodes = sheet.nodes; slots = slice_set sheet.slots (unsigned_abs area) None }
-changed sheet (Check x1 y1 z1 x2 y2 z2) = sheet
+changed sheet (Check start end) = sheet
 
 -- the sheet after a call: a refused one leaves it as it was
 abbrev pub after : SheetData → Call → SheetData

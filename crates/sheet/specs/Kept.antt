@@ -1,6 +1,7 @@
 -- What is promised of a leg that is checked against a sheet, alone or joined with a further field. All of it is said of the sheet as data: which nodes it has, and
 -- which areas are on.
 use Rattle.std.specs.Prelude.{◌≡◌, ℕ, true, cond, ℤ, pos, ◌<ℤ◌, Some, None, int_le, slice_index_or}
+use Rattle.leg.specs.declared.shapes.Point.{Point}
 use Rattle.leg.specs.declared.shapes.Leg.{Leg}
 use Rattle.leg.specs.Making.{Joins}
 use Rattle.field.specs.Meaning.{Meaning, Laws, reach_bound}
@@ -38,17 +39,17 @@ LawfulJoint (first f) = Laws f
 LawfulJoint (second f) = Laws f
 
 -- 23 for a field that reaches too far, 19 or 20 for the leg, or the verdict that halving yields
-abbrev pub limited_answer : Meaning → ℤ → ℤ → ℤ → ℤ → ℤ → ℤ → Answer
-limited_answer field x1 y1 z1 x2 y2 z2 = cond (int_le field.reach reach_bound) (outcome (outcome_of x1 y1 z1 x2 y2 z2 field)) (refused 23)
+abbrev pub limited_answer : Meaning → Point → Point → Answer
+limited_answer field start end = cond (int_le field.reach reach_bound) (outcome (outcome_of start end field)) (refused 23)
 
-abbrev pub check_answer : Joint → SheetData → ℤ → ℤ → ℤ → ℤ → ℤ → ℤ → Answer
-check_answer joint sheet x1 y1 z1 x2 y2 z2 = limited_answer (whole_of joint sheet) x1 y1 z1 x2 y2 z2
+abbrev pub check_answer : Joint → SheetData → Point → Point → Answer
+check_answer joint sheet start end = limited_answer (whole_of joint sheet) start end
 
 -- what a verdict shows of the leg. F(p, q) is `(whole_of joint sheet).value leg p q`: the value at the place p, q times q².
-pub record Shown (joint : Joint) (sheet : SheetData) (x1 y1 z1 x2 y2 z2 : ℤ) (row : Row) : Type 0 where
-  -- the leg of the six coordinates
+pub record Shown (joint : Joint) (sheet : SheetData) (start end : Point) (row : Row) : Type 0 where
+  -- the leg that joins the points
   pub leg : Leg
-  pub joins : Joins leg x1 y1 z1 x2 y2 z2
+  pub joins : Joins leg start end
   -- clear: F(p, q) > 0 at every place. Entered or near in piece k: F(p, q) > 0 at every place up to half-step 2k; entered: F(2k + 2, 1) ≤ 0; near:
   -- F(2k + 2, 1) > 0 and F(2k + 1, 1) is at most the steepness. Inside exactly when F(0, 1) ≤ 0.
   pub promise : Promise ((whole_of joint sheet).value leg) ((whole_of joint sheet).steepness leg) row
@@ -57,10 +58,10 @@ pub record Shown (joint : Joint) (sheet : SheetData) (x1 y1 z1 x2 y2 z2 : ℤ) (
   -- the piece named is the first finest piece that no cleared piece contains, and the bounds are counted
   pub relation : Relation ((whole_of joint sheet).value leg) (clears (whole_of joint sheet) leg) row
 
--- The promise of a check: of a sheet, joined or not, and any six numbers.
-pub record Kept (joint : Joint) (sheet : SheetData) (x1 y1 z1 x2 y2 z2 : ℤ) (answer : Answer) : Type 0 where
+-- The promise of a check: of a sheet, joined or not, and any two points.
+pub record Kept (joint : Joint) (sheet : SheetData) (start end : Point) (answer : Answer) : Type 0 where
   -- it is answered by the rules, and in no other way
-  pub exact : answer ≡ check_answer joint sheet x1 y1 z1 x2 y2 z2
+  pub exact : answer ≡ check_answer joint sheet start end
   -- 23 comes only where what is joined reaches further than 2^60
   pub only_far : answer ≡ refused 23 → pos 1152921504606846976 <ℤ joint_reach joint
-  pub verdict : (row : Row) → answer ≡ checked row → Shown joint sheet x1 y1 z1 x2 y2 z2 row
+  pub verdict : (row : Row) → answer ≡ checked row → Shown joint sheet start end row

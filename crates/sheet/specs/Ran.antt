@@ -1,5 +1,6 @@
 -- What is promised of a list of calls that is run on a sheet from its opening on.
-use Rattle.std.specs.Prelude.{◌≡◌, List, ◌∷◌, ◌++◌, length, ℤ, slice_index_or}
+use Rattle.std.specs.Prelude.{◌≡◌, List, ◌∷◌, ◌++◌, length, slice_index_or}
+use Rattle.leg.specs.declared.shapes.Point.{Point}
 use Rattle.sheet.specs.declared.call.Call.{Call}
 use Rattle.sheet.specs.declared.call.Call.TheVariants.{Check}
 use Rattle.sheet.specs.Calls.{SheetData, empty_sheet, built}
@@ -12,5 +13,5 @@ pub record Ran (calls : List Call) (answers : List Answer) (sheet : SheetData) :
   -- each call is answered as the rules say, on the sheet that those before it left
   pub answered : answers ≡ answers_to empty_sheet calls
   -- each check keeps the promise for the sheet that the calls before it built
-  pub kept : (before rest : List Call) (x1 y1 z1 x2 y2 z2 : ℤ) → calls ≡ before ++ (Check x1 y1 z1 x2 y2 z2 ∷ rest) →
-      Kept alone (built before) x1 y1 z1 x2 y2 z2 (slice_index_or answers (length before) (taken 0))
+  pub kept : (before rest : List Call) (start end : Point) → calls ≡ before ++ (Check start end ∷ rest) →
+      Kept alone (built before) start end (slice_index_or answers (length before) (taken 0))

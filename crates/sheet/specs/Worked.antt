@@ -15,7 +15,7 @@ cylinder k = record { kind = pos 1; a = pos 0; b = pos 0; px = pos 0; py = pos 0
 
 -- a level leg at z = 100 along x
 abbrev pub along : ℤ → ℤ → ℤ → Call
-along x1 x2 y = Check x1 y (pos 100) x2 y (pos 100)
+along x1 x2 y = Check (record { x = x1; y = y; z = pos 100 }) (record { x = x2; y = y; z = pos 100 })
 
 abbrev pub calls_worked : List Call
 calls_worked =

@@ -1,26 +1,36 @@
 // The five calls that change a sheet. Each answers the first refusal that fits and then leaves the sheet as it was.
-ghost use Rattle.std.specs.Prelude.{◌≡◌, IfOk};
+ghost use Rattle.std.specs.Prelude.{◌≡◌, ◌<◌, IfOk, IsTrue, IsFalse, MatchResult, unsigned_abs};
+ghost use Rattle.refusal.specs.declared.Refusal.TheVariants.{AreaNumber, AreaSwitch};
 ghost use Rattle.sheet.specs.declared.call.Call.TheVariants.{Add, TakeBack, Publish, Switch, Strike};
-ghost use Rattle.sheet.specs.Calls.{after, empty_sheet, names_area, is_on_or_off};
+ghost use Rattle.sheet.specs.Calls.{after, empty_sheet, names_area, is_on_or_off, is_on};
 ghost use Rattle.sheet.specs.Answers.{done, told};
 ghost use Rattle.sheet.specs.Held.{data_of};
 
 use crate::sheet::Sheet;
 use areas::{Area, Areas};
-use nodes::{Node, refers_to, validate};
+use nodes::{Node, Nodes, refers_to};
 use refusal::Refusal;
 use std::alloc::{AllocError, Global};
 
-fn is_area_number(area: i64) -> bool
-    ensures { result ≡ names_area area }
+// The number of an area.
+fn area_number(area: i64) -> Result<usize, Refusal>
+    ensures { MatchResult result (λ n. IsTrue (names_area area) × (n ≡ unsigned_abs area) × (n < 16)) (λ e. IsFalse (names_area area) × (e ≡ AreaNumber)) }
 {
-    0 <= area && area <= 15
+    match area {
+        0..=15 => Ok(area as usize),
+        _ => Err(Refusal::AreaNumber),
+    }
 }
 
-fn is_switch(on: i64) -> bool
-    ensures { result ≡ is_on_or_off on }
+// Whether an area is to be on.
+fn switch_position(on: i64) -> Result<bool, Refusal>
+    ensures { MatchResult result (λ b. IsTrue (is_on_or_off on) × (b ≡ is_on on)) (λ e. IsFalse (is_on_or_off on) × (e ≡ AreaSwitch)) }
 {
-    on == 0 || on == 1
+    match on {
+        0 => Ok(false),
+        1 => Ok(true),
+        _ => Err(Refusal::AreaSwitch),
+    }
 }
 
 impl Sheet {
@@ -40,25 +50,16 @@ impl Sheet {
         ensures answer { told result ≡ done (data_of self.old) (Publish area node on) }
         ensures after { data_of self.new ≡ after (data_of self.old) (Publish area node on) }
     {
-        if !is_area_number(area) {
-            return Err(Refusal::AreaNumber);
-        }
-        let number = area.unsigned_abs() as usize;
-        let slot = self.areas.at(number);
-        if slot.is_some() {
+        let number = area_number(area)?;
+        if self.areas.at(number).is_some() {
             return Err(Refusal::AreaPublished);
         }
         if !refers_to(self.nodes.len(), node) {
             return Err(Refusal::AreaNode);
         }
-        if !is_switch(on) {
-            return Err(Refusal::AreaSwitch);
-        }
-        let area = Area {
-            node: node.unsigned_abs() as usize,
-            on: on == 1,
-        };
-        self.areas.put(number, Some(area));
+        let on = switch_position(on)?;
+        let node = node as usize;
+        self.areas.put(number, Some(Area { node, on }));
         Ok(number)
     }
 
@@ -67,22 +68,10 @@ impl Sheet {
         ensures answer { told result ≡ done (data_of self.old) (Switch area on) }
         ensures after { data_of self.new ≡ after (data_of self.old) (Switch area on) }
     {
-        if !is_area_number(area) {
-            return Err(Refusal::AreaNumber);
-        }
-        let number = area.unsigned_abs() as usize;
-        let slot = self.areas.at(number);
-        let Some(old) = slot else {
-            return Err(Refusal::AreaNotPublished);
-        };
-        if !is_switch(on) {
-            return Err(Refusal::AreaSwitch);
-        }
-        let area = Area {
-            node: old.node,
-            on: on == 1,
-        };
-        self.areas.put(number, Some(area));
+        let number = area_number(area)?;
+        let old = self.areas.at(number).ok_or(Refusal::AreaNotPublished)?;
+        let on = switch_position(on)?;
+        self.areas.put(number, Some(Area { on, ..old }));
         Ok(number)
     }
 
@@ -91,12 +80,8 @@ impl Sheet {
         ensures answer { told result ≡ done (data_of self.old) (Strike area) }
         ensures after { data_of self.new ≡ after (data_of self.old) (Strike area) }
     {
-        if !is_area_number(area) {
-            return Err(Refusal::AreaNumber);
-        }
-        let number = area.unsigned_abs() as usize;
-        let slot = self.areas.at(number);
-        if slot.is_none() {
+        let number = area_number(area)?;
+        if self.areas.at(number).is_none() {
             return Err(Refusal::AreaNotPublished);
         }
         self.areas.put(number, None);
@@ -112,7 +97,7 @@ impl Sheet {
         if at >= 64 {
             return Err(Refusal::SheetFull);
         }
-        validate(&self.nodes, &node)?;
+        Nodes::new(&self.nodes).validate(&node)?;
         self.nodes.push_reserved(node);
         Ok(at)
     }

@@ -10,6 +10,7 @@ ghost use Rattle.sheet.specs.Held.{data_of};
 use crate::sheet::Sheet;
 use areas::View;
 use field::{Field, Union};
+use leg::Point;
 use leg_check::{Verdict, check};
 use refusal::Refusal;
 
@@ -17,75 +18,55 @@ use refusal::Refusal;
 fn check_union<A: Field + Drop, B: Field + Drop>(
     first: A,
     second: B,
-    x1: i64,
-    y1: i64,
-    z1: i64,
-    x2: i64,
-    y2: i64,
-    z2: i64,
+    start: Point,
+    end: Point,
 ) -> Result<Verdict, Refusal>
     requires first { A.Field.lawful first }
     requires second { B.Field.lawful second }
-    ensures { found result ≡ limited_answer (union_of (A.Field.meaning first) (B.Field.meaning second)) x1 y1 z1 x2 y2 z2 }
+    ensures { found result ≡ limited_answer (union_of (A.Field.meaning first) (B.Field.meaning second)) start end }
 {
     Union::fits(&first, &second)?;
-    check(&Union::new(first, second), x1, y1, z1, x2, y2, z2)
+    check(&Union::new(first, second), start, end)
 }
 
 impl Sheet {
     // The sheet lent as a field: while it is in use the sheet cannot change.
     pub fn view(&self) -> View<'_>
-        ensures { field_over result.nodes.now result.areas.now.slots ≡ field_of (data_of self.now) }
+        ensures { field_over result.nodes.all.now result.areas.now.slots ≡ field_of (data_of self.now) }
     {
         View::new(&self.nodes, &self.areas)
     }
 
-    // The check of the leg from (x1, y1, z1) to (x2, y2, z2).
-    pub fn check(
-        &self,
-        x1: i64,
-        y1: i64,
-        z1: i64,
-        x2: i64,
-        y2: i64,
-        z2: i64,
-    ) -> Result<Verdict, Refusal>
-        ensures { Live alone (data_of self.now) x1 y1 z1 x2 y2 z2 (found result) }
+    // The check of the leg from one point to another.
+    pub fn check(&self, start: Point, end: Point) -> Result<Verdict, Refusal>
+        ensures { Live alone (data_of self.now) start end (found result) }
     {
-        check(&self.view(), x1, y1, z1, x2, y2, z2)
+        check(&self.view(), start, end)
     }
 
     // The same, with a further field as the first part of a union.
     pub fn check_with_first<F: Field>(
         &self,
         field: &F,
-        x1: i64,
-        y1: i64,
-        z1: i64,
-        x2: i64,
-        y2: i64,
-        z2: i64,
+        start: Point,
+        end: Point,
     ) -> Result<Verdict, Refusal>
         requires { F.Field.lawful field.now }
-        ensures { Live (first (F.Field.meaning field.now)) (data_of self.now) x1 y1 z1 x2 y2 z2 (found result) }
+        ensures { Live (first (F.Field.meaning field.now)) (data_of self.now) start end (found result) }
     {
-        check_union(field, self.view(), x1, y1, z1, x2, y2, z2)
+        check_union(field, self.view(), start, end)
     }
 
-    // The same, with a further field as the second part of a union.
+    // The same, with a further field as the second part of a union. The two differ in the order of the parts, which no type or constant says plainer.
     pub fn check_with_second<F: Field>(
         &self,
         field: &F,
-        x1: i64,
-        y1: i64,
-        z1: i64,
-        x2: i64,
-        y2: i64,
-        z2: i64,
+        start: Point,
+        end: Point,
     ) -> Result<Verdict, Refusal>
         requires { F.Field.lawful field.now }
-        ensures { Live (second (F.Field.meaning field.now)) (data_of self.now) x1 y1 z1 x2 y2 z2 (found result) }
+        ensures { Live (second (F.Field.meaning field.now)) (data_of self.now) start end (found result) }
     {
-        check_union(self.view(), field, x1, y1, z1, x2, y2, z2)
+        check_union(self.view(), field, start, end)
     }
 }

@@ -8,7 +8,7 @@ mod running;
 mod sheet;
 mod worked;
 
-pub use call::{Call, Reply};
+pub use call::{Call, Reply, Success};
 pub use running::{Transcript, run};
 pub use sheet::Sheet;
 pub use worked::worked_calls;

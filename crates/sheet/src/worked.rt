@@ -4,6 +4,7 @@ ghost use Rattle.sheet.specs.Worked.{calls_worked, WorkedSheet};
 ghost use Rattle.sheet.specs.Worked.{cylinder as cylinder_of, along as along_of};
 
 use crate::call::Call;
+use leg::Point;
 use nodes::Node;
 
 // An upright cylinder about x = 0, y = 0.
@@ -32,12 +33,8 @@ fn along(x1: i64, x2: i64, y: i64) -> Call
     ensures { result ≡ along_of x1 x2 y }
 {
     Call::Check {
-        x1,
-        y1: y,
-        z1: 100,
-        x2,
-        y2: y,
-        z2: 100,
+        start: Point::new(x1, y, 100),
+        end: Point::new(x2, y, 100),
     }
 }
 

@@ -6,20 +6,16 @@ use Rattle.refusal.specs.declared.Fault.{Fault}
 use Rattle.table.specs.declared.table.Table.{Table}
 use Rattle.table.specs.Text.{fields, lines}
 use Rattle.table.specs.Names.{column_names}
+use Rattle.refusal.specs.declared.Refusal.TheVariants.{TextStart, FieldValue}
 use Rattle.refusal.specs.Numbers.{fault}
 use Rattle.table.specs.Reading.{Reading, and_then, opened_text, line_at, first_not, unless, good_value, heads_of, row_under, after, rows_from, body, reading}
 use Rattle.table.specs.Rearranged.{ending, Rearrangement, Moved, Rearranged}
 use Rattle.table.proofs.NextRows.{row_on, at_line, taken, Headed, headed}
 use Rattle.table.proofs.Columns.{same_row}
-
-err_ok : {A B : Type 0} {a : A} {b : B} → ◌≡◌ {A = Result A B} (Err b) (Ok a) → ⊥
-err_ok e = let z : ◌≡◌ {A = ℕ} 0 1 = cc in omega arith
-
-some_none : {A : Type 0} {a : A} → Some a ≡ None → ⊥
-some_none e = let z : ◌≡◌ {A = ℕ} 0 1 = cc in omega arith
+use Rattle.table.proofs.Variants.{some_none, err_ok}
 
 -- an accepted line gave its row, and what follows is accepted
-accepted_values : (row : List (List ℕ) → List ℤ) (n : ℕ) (fs : List (List ℕ)) (o : Option ℕ) (more : Reading) → (after (and_then (unless 5 n fs o) (λ gs. Ok (Some (row gs)))) more).stop ≡ None → (and_then (unless 5 n fs o) (λ gs. Ok (Some (row gs))) ≡ Ok (Some (row fs))) × (more.stop ≡ None)
+accepted_values : (row : List (List ℕ) → List ℤ) (n : ℕ) (fs : List (List ℕ)) (o : Option ℕ) (more : Reading) → (after (and_then (unless FieldValue n fs o) (λ gs. Ok (Some (row gs)))) more).stop ≡ None → (and_then (unless FieldValue n fs o) (λ gs. Ok (Some (row gs))) ≡ Ok (Some (row fs))) × (more.stop ≡ None)
 accepted_values row n fs None more e = (refl, e)
 accepted_values row n fs (Some c) more e = absurd (some_none e)
 
@@ -82,7 +78,7 @@ accepted_heads : (ns : List (List ℕ)) (text : List ℕ) (r : Result (List (Lis
 accepted_heads ns text (Err f) e = absurd (some_none e)
 accepted_heads ns text (Ok heads) e = (heads, refl)
 
-opened_heads : (ns : List (List ℕ)) (refused : Bool) (text : List ℕ) (heads : List (List ℕ)) → and_then (cond refused (Err (fault 1 1 0)) (Ok text)) (heads_of ns) ≡ Ok heads → heads_of ns text ≡ Ok heads
+opened_heads : (ns : List (List ℕ)) (refused : Bool) (text : List ℕ) (heads : List (List ℕ)) → and_then (cond refused (Err (fault TextStart 1 0)) (Ok text)) (heads_of ns) ≡ Ok heads → heads_of ns text ≡ Ok heads
 opened_heads ns true text heads e = absurd (err_ok e)
 opened_heads ns false text heads e = e
 

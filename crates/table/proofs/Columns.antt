@@ -1,36 +1,37 @@
 -- One rearrangement of the columns moves each name and its value together.
-use Rattle.std.proofs.Common.{◌≡◌, ℕ, zero, suc, ◌+◌, ◌<◌, ◌≤◌, eqb, ltb, List, [], ◌∷◌, map, length, get_or, Some, None, sym, ap, ◌∙◌, ⊎_elim, arith}
+use Rattle.std.proofs.Common.{◌≡◌, ℕ, zero, suc, ◌+◌, ◌<◌, ◌≤◌, true, eqb, List, [], ◌∷◌, map, length, get_or, Some, None, Option, sym, ap, ◌∙◌, ⊎_elim, arith}
+use Rattle.std.specs.Option.{option_eq}
 use Rattle.std.specs.Str.{bytes_eq}
 use Rattle.std.proofs.lemmas.Slice.Eq.{bytes_eq-Decides}
 use Rattle.std.proofs.lemmas.List.{length-map, get_or-map, get_or_past}
 use Rattle.std.proofs.lemmas.List.Elements.{at_from_Contains}
-use Rattle.std.proofs.lemmas.Bool.{cond-true, cond-false, cond_both, cases_Bool, cases_lt, and_parts, eqb-true}
-use Rattle.table.specs.Names.{place_in}
+use Rattle.std.proofs.lemmas.Bool.{cond-true, cond-false, cases_Bool, false≢true, cases_lt, and_parts, eqb-true}
+use Rattle.table.specs.Names.{position_of, place_in, known}
 use Rattle.table.specs.Reading.{first_not, good_name, value_of, filled, row_under}
 use Rattle.table.specs.Rearranged.{Rearrangement}
+use Rattle.table.proofs.Cuts.{found_at, missed_before, passes_at}
+use Rattle.table.proofs.Variants.{some_none}
 
 -- the place of a name holds the name, and no earlier place does
 pub found_there : (xs : List (List ℕ)) (f : List ℕ) → place_in xs f < length xs → get_or xs (place_in xs f) [] ≡ f
-found_there [] f h = absurd (let k : ⊥ = omega arith in k)
-found_there (x ∷ xs) f h =
-    let P : ℕ → Type 0 = λ p. p < suc (length xs) → get_or (x ∷ xs) p [] ≡ f in
-    cond_both (bytes_eq x f) 0 (suc (place_in xs f)) P (λ t _. (bytes_eq-Decides x f).0 t) (λ _ l. found_there xs f (omega arith)) h
+found_there xs f h = (bytes_eq-Decides (get_or xs (place_in xs f) []) f).0 (passes_at (λ x. bytes_eq x f) xs [] h)
 
-pub not_past : (xs : List (List ℕ)) (f : List ℕ) (i : ℕ) → i < length xs → get_or xs i [] ≡ f → place_in xs f ≤ i
-not_past [] f i h e = absurd (let k : ⊥ = omega arith in k)
-not_past (x ∷ xs) f zero h e = let s = cond-true (bytes_eq x f) 0 (suc (place_in xs f)) ((bytes_eq-Decides x f).1 e) in omega arith
-not_past (x ∷ xs) f (suc i) h e =
-    let r = not_past xs f i (omega arith) e in
-    cond_both (bytes_eq x f) 0 (suc (place_in xs f)) (λ p. p ≤ suc i) (λ _. omega arith) (λ _. omega arith)
+pub not_past : (xs : List (List ℕ)) (f : List ℕ) (i : ℕ) → get_or xs i [] ≡ f → place_in xs f ≤ i
+not_past xs f i e =
+    ⊎_elim (λ lt. absurd (false≢true (sym (missed_before (λ x. bytes_eq x f) xs i [] lt) ∙ (bytes_eq-Decides (get_or xs i []) f).1 e))) (λ ge. ge) (cases_lt i (place_in xs f))
 
-some_none : {A : Type 0} {a : A} → Some a ≡ None → ⊥
-some_none e = let z : ◌≡◌ {A = ℕ} 0 1 = cc in omega arith
+same_option : (o : Option ℕ) (i : ℕ) → option_eq eqb o (Some i) ≡ true → o ≡ Some i
+same_option None i e = absurd (false≢true e)
+same_option (Some p) i e = ap (λ (n : ℕ). Some n) (eqb-true p i e)
+
+first_here : (heads : List (List ℕ)) (f : List ℕ) (i : ℕ) → option_eq eqb (position_of heads f) (Some i) ≡ true → place_in heads f ≡ i
+first_here heads f i e = (found_at (λ x. bytes_eq x f) heads i (same_option (position_of heads f) i e)).0
 
 -- in accepted names each stands where it is first found
 good_from : (ns heads : List (List ℕ)) (i : ℕ) (fs : List (List ℕ)) → first_not (good_name ns heads) i fs ≡ None → (k : ℕ) → k < length fs → place_in heads (get_or fs k []) ≡ i + k
 good_from ns heads i [] e k h = absurd (let z : ⊥ = omega arith in z)
 good_from ns heads i (f ∷ fs) e zero h =
-    ⊎_elim (λ t. let s = eqb-true (place_in heads f) i (and_parts (ltb (place_in ns f) (length ns)) (eqb (place_in heads f) i) t).1 in let z : place_in heads f ≡ i + 0 = omega arith in z)
+    ⊎_elim (λ t. let s = first_here heads f i (and_parts (known ns f) (option_eq eqb (position_of heads f) (Some i)) t).1 in let z : place_in heads f ≡ i + 0 = omega arith in z)
     (λ n. absurd (some_none (sym (cond-false (good_name ns heads i f) _ _ n) ∙ e))) (cases_Bool (good_name ns heads i f))
 good_from ns heads i (f ∷ fs) e (suc k) h =
     ⊎_elim (λ t. let s = good_from ns heads (i + 1) fs (sym (cond-true (good_name ns heads i f) _ _ t) ∙ e) k (omega arith) in let z : place_in heads (get_or fs k []) ≡ i + suc k = omega arith in z)
@@ -72,7 +73,7 @@ module _ (n : ℕ) (places : List ℕ) (r : Rearrangement n places) (heads fs : 
       let lp = r.0 in
       let lt : i.0 < n = omega (arith, i.1) in
       let e = at_moved heads i.0 lt ∙ ap (λ (k : ℕ). get_or heads k []) (i.2 0) ∙ found_there heads name (omega arith) in
-      let b = not_past (moved places heads) name i.0 (omega arith) e in
+      let b = not_past (moved places heads) name i.0 e in
       omega arith
 
   pub same_value : value_of (get_or (moved places fs) (place_in (moved places heads) name) []) ≡ value_of (get_or fs (place_in heads name) [])

@@ -1,20 +1,16 @@
 -- An accepted text has a row for each line feed but the first.
-use Rattle.std.proofs.Common.{◌≡◌, ℕ, zero, suc, ◌+◌, ◌<◌, true, false, cond, eqb, List, [], ◌∷◌, length, drop, ℤ, Some, None, Ok, Err, Option, Result, sym, refl, ap, ◌∙◌, subst, arith, length-drop}
+use Rattle.std.proofs.Common.{◌≡◌, ℕ, zero, suc, ◌+◌, ◌<◌, eqb, List, [], ◌∷◌, length, drop, ℤ, Some, None, Ok, Err, Option, Result, sym, ap, ◌∙◌, subst, arith, length-drop}
 use Rattle.refusal.specs.declared.Fault.{Fault}
 use Rattle.table.specs.declared.table.Table.{Table}
-use Rattle.table.specs.Text.{onto, parts, lines, feeds}
+use Rattle.std.proofs.lemmas.List.Splits.{length-slice_split}
+use Rattle.table.specs.Text.{lines, feeds}
 use Rattle.table.specs.Names.{column_names}
 use Rattle.table.specs.Reading.{Reading, row_under, rows_from, reading, row_among, row_of, Complete}
-use Rattle.table.proofs.Cuts.{onto_length, some_part}
 use Rattle.table.proofs.Alike.{last_part, inner_line, accepted}
 
 -- one line more than line feeds
 lines_fed : (text : List ℕ) → length (lines text) ≡ suc (feeds text)
-lines_fed [] = refl
-lines_fed (x ∷ xs) =
-    let h = lines_fed xs in
-    let o = onto_length x (parts 10 xs) (some_part 10 xs) in
-    elim (eqb x 10) as (λ b. length (cond b ([] ∷ parts 10 xs) (onto x (parts 10 xs))) ≡ suc (cond b (suc (feeds xs)) (feeds xs))) [ true ↦ ap suc h | false ↦ o ∙ h ]
+lines_fed text = let l = length-slice_split (λ x. eqb x 10) text in omega arith
 
 -- an accepted line gives a row, and only what stands after the last line feed gives none
 each_line : (row : List (List ℕ) → List ℤ) (count n : ℕ) (ls : List (List ℕ)) → 0 < length ls → (rows_from row count n ls).stop ≡ None → suc (length (rows_from row count n ls).rows) ≡ length ls

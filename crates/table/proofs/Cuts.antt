@@ -1,68 +1,71 @@
 -- A list cut at its marks: the first part, the rest, and how many parts there are.
-use Rattle.std.proofs.Common.{◌≡◌, ℕ, zero, suc, ◌+◌, ◌<◌, ◌≤◌, eqb, List, [], ◌∷◌, length, get_or, take, drop, sym, refl, ap, ◌∙◌, add-one, arith, eq-eqb, ne_eqb}
-use Rattle.std.proofs.lemmas.List.{at_drop_more, at_drop_all}
-use Rattle.std.proofs.lemmas.Bool.{cond_both, cond-true, cond-false}
-use Rattle.table.specs.Text.{onto, parts}
-
-pub onto_length : (x : ℕ) (ps : List (List ℕ)) → 0 < length ps → length (onto x ps) ≡ length ps
-onto_length x [] h = absurd (let k : ⊥ = omega arith in k)
-onto_length x (p ∷ ps) h = refl
+use Rattle.std.proofs.Common.{◌≡◌, ℕ, suc, ◌+◌, ◌<◌, ◌≤◌, Bool, true, false, not, eqb, ltb, ◌⊎◌, List, [], ◌∷◌, length, get_or, take, drop, Some, None, Option, position, sym, refl, ap, ◌∙◌, inl, inr, ⊎_elim, arith, ltb-true, ltb-false}
+use Rattle.std.specs.List.{position_or_len}
+use Rattle.std.proofs.lemmas.List.{length-take-le}
+use Rattle.std.proofs.lemmas.List.Splits.{slice_split_first, slice_split_none, length-slice_split}
+use Rattle.std.proofs.lemmas.List.Sums.{count_by-le-length, prefix_len_passes, prefix_len_stops}
+use Rattle.std.proofs.lemmas.Bool.{cond-true, cond-false, cases_Bool}
+use Rattle.table.specs.Text.{parts, fields}
+use Rattle.table.proofs.Variants.{some_none, some_same}
 
 -- there is always one part at least
 pub some_part : (m : ℕ) (xs : List ℕ) → 0 < length (parts m xs)
-some_part m [] = omega arith
-some_part m (x ∷ xs) =
-    let h = some_part m xs in
-    let e = onto_length x (parts m xs) h in
-    cond_both (eqb x m) ([] ∷ parts m xs) (onto x (parts m xs)) (λ ps. 0 < length ps) (λ _. omega arith) (λ _. omega arith)
+some_part m xs = let l = length-slice_split (λ x. eqb x m) xs in omega arith
 
--- the first mark stands at n
-pub cut_found : (m : ℕ) (s : List ℕ) (n : ℕ) → n < length s → ((k : ℕ) → k < n → get_or s k 0 ≡ m → ⊥) → get_or s n 0 ≡ m → parts m s ≡ take n s ∷ parts m (drop (suc n) s)
-cut_found m [] n h b f = absurd (let k : ⊥ = omega arith in k)
-cut_found m (x ∷ xs) zero h b f = cond-true _ _ _ (eq-eqb x m f)
-cut_found m (x ∷ xs) (suc n) h b f =
-    let other : x ≡ m → ⊥ = b 0 (omega arith) in
-    cond-false _ _ _ (ne_eqb x m other) ∙ ap (onto x) (cut_found m xs n (omega arith) (λ k l. b (suc k) (omega arith)) f)
+pub few_fields : (line : List ℕ) → length (fields line) ≤ length line + 1
+few_fields line = let l = length-slice_split (λ x. eqb x 32) line in let c = count_by-le-length (λ x. eqb x 32) line in omega arith
 
--- there is no mark
-pub cut_none : (m : ℕ) (s : List ℕ) → ((k : ℕ) → k < length s → get_or s k 0 ≡ m → ⊥) → parts m s ≡ s ∷ []
-cut_none m [] b = refl
-cut_none m (x ∷ xs) b =
-    let other : x ≡ m → ⊥ = b 0 (omega arith) in
-    cond-false _ _ _ (ne_eqb x m other) ∙ ap (onto x) (cut_none m xs (λ k l. b (suc k) (omega arith)))
+not_true : (b : Bool) → not b ≡ true → b ≡ false
+not_true true e = sym e
+not_true false e = refl
 
--- where a mark stands one part more follows, elsewhere as many
-pub count_mark : (m : ℕ) (s : List ℕ) (i : ℕ) → i < length s → get_or s i 0 ≡ m → length (parts m (drop i s)) ≡ suc (length (parts m (drop (i + 1) s)))
-count_mark m s i h e = at_drop_more (λ l. length (parts m l)) s i 0 h ∙ ap length (cond-true _ _ _ (eq-eqb (get_or s i 0) m e))
+not_false : (b : Bool) → not b ≡ false → b ≡ true
+not_false true e = refl
+not_false false e = sym e
 
-pub count_other : (m : ℕ) (s : List ℕ) (i : ℕ) → i < length s → (get_or s i 0 ≡ m → ⊥) → length (parts m (drop i s)) ≡ length (parts m (drop (i + 1) s))
-count_other m s i h e = at_drop_more (λ l. length (parts m l)) s i 0 h ∙ ap length (cond-false _ _ _ (ne_eqb (get_or s i 0) m e)) ∙ onto_length _ _ (some_part m (drop (i + 1) s))
+-- what `position` says
+module _ {X : Type 0} (p : X → Bool) (xs : List X) where
+  pub found_at : (n : ℕ) → position p xs ≡ Some n → (position_or_len p xs ≡ n) × (n < length xs)
+  found_at n e =
+      let q = position_or_len p xs in
+      let here = ltb q (length xs) in
+      ⊎_elim (λ t. let s = some_same (sym (cond-true here _ _ t) ∙ e) in let l = ltb-true q (length xs) t in (s, let k : n < length xs = omega arith in k))
+      (λ f. absurd (some_none (sym e ∙ cond-false here _ _ f))) (cases_Bool here)
 
-pub count_none : (m : ℕ) (s : List ℕ) (i : ℕ) → length s ≤ i → length (parts m (drop i s)) ≡ 1
-count_none m s i h = at_drop_all (λ l. length (parts m l)) s i h
+  pub found_nowhere : position p xs ≡ None → length xs ≤ position_or_len p xs
+  found_nowhere e =
+      let q = position_or_len p xs in
+      let here = ltb q (length xs) in
+      ⊎_elim (λ t. absurd (some_none (sym (cond-true here _ _ t) ∙ e))) (λ f. ltb-false q (length xs) f) (cases_Bool here)
 
--- with a second part, the rest begins past the first part and its mark
-first_cut : (m x : ℕ) (xs : List ℕ) (ps : List (List ℕ)) → parts m xs ≡ ps → (1 < length ps → parts m (drop (suc (length (get_or ps 0 []))) xs) ≡ drop 1 ps) → 1 < length (onto x ps) → parts m (drop (suc (length (get_or (onto x ps) 0 []))) (x ∷ xs)) ≡ drop 1 (onto x ps)
-first_cut m x xs [] e ih h = absurd (let k : ⊥ = omega arith in k)
-first_cut m x xs (p ∷ ps) e ih h = ih h
+  pub missed_before : (k : ℕ) (d : X) → k < position_or_len p xs → p (get_or xs k d) ≡ false
+  missed_before k d h = not_true (p (get_or xs k d)) (prefix_len_passes (λ x. not (p x)) xs k d h)
 
-pub rest_cut : (m : ℕ) (xs : List ℕ) → 1 < length (parts m xs) → parts m (drop (suc (length (get_or (parts m xs) 0 []))) xs) ≡ drop 1 (parts m xs)
-rest_cut m [] h = absurd (let k : ⊥ = omega arith in k)
-rest_cut m (x ∷ xs) h =
-    let P : List (List ℕ) → Type 0 = λ ps. 1 < length ps → parts m (drop (suc (length (get_or ps 0 []))) (x ∷ xs)) ≡ drop 1 ps in
-    cond_both (eqb x m) ([] ∷ parts m xs) (onto x (parts m xs)) P (λ _ k. refl) (λ _. first_cut m x xs (parts m xs) refl (rest_cut m xs)) h
+  pub passes_at : (d : X) → position_or_len p xs < length xs → p (get_or xs (position_or_len p xs) d) ≡ true
+  passes_at d h = not_false (p (get_or xs (position_or_len p xs) d)) (prefix_len_stops (λ x. not (p x)) xs d h)
 
--- the first part and what stands after its mark, as a program cuts them
-pub cut_at : (m : ℕ) (s : List ℕ) (n : ℕ) → n < length s → ((k : ℕ) → k < n → get_or s k 0 ≡ m → ⊥) → get_or s n 0 ≡ m → parts m s ≡ take n s ∷ parts m (drop (n + 1) s)
-cut_at m s n h b f = cut_found m s n h b f ∙ ap (λ (k : ℕ). take n s ∷ parts m (drop k s)) (sym (add-one n))
+  pub somewhere : (o : Option ℕ) → position p xs ≡ o → ((n : ℕ) × (position p xs ≡ Some n)) ⊎ (position p xs ≡ None)
+  somewhere None e = inr e
+  somewhere (Some n) e = inl (n, e)
 
--- with a second part, the first part and its mark lie within
-below_onto : (x : ℕ) (xs : List ℕ) (ps : List (List ℕ)) → (1 < length ps → length (get_or ps 0 []) < length xs) → 1 < length (onto x ps) → length (get_or (onto x ps) 0 []) < suc (length xs)
-below_onto x xs [] ih h = absurd (let k : ⊥ = omega arith in k)
-below_onto x xs (p ∷ ps) ih h = let k = ih h in omega arith
+module _ (m : ℕ) (xs : List ℕ) where
+  abbrev mark : ℕ → Bool
+  mark x = eqb x m
 
-pub first_below : (m : ℕ) (xs : List ℕ) → 1 < length (parts m xs) → length (get_or (parts m xs) 0 []) < length xs
-first_below m [] h = absurd (let k : ⊥ = omega arith in k)
-first_below m (x ∷ xs) h =
-    let P : List (List ℕ) → Type 0 = λ ps. 1 < length ps → length (get_or ps 0 []) < suc (length xs) in
-    cond_both (eqb x m) ([] ∷ parts m xs) (onto x (parts m xs)) P (λ _ k. omega arith) (λ _. below_onto x xs (parts m xs) (first_below m xs)) h
+  -- the first mark stands at n
+  pub cut_some : (n : ℕ) → position mark xs ≡ Some n → parts m xs ≡ take n xs ∷ parts m (drop (n + 1) xs)
+  cut_some n e = let f = found_at mark xs n e in let l = f.0 in slice_split_first mark xs 0 (omega (arith, f.1)) ∙ ap (λ (k : ℕ). take k xs ∷ parts m (drop (k + 1) xs)) f.0
+
+  -- there is no mark
+  pub cut_none : position mark xs ≡ None → parts m xs ≡ xs ∷ []
+  cut_none e = let l = found_nowhere mark xs e in slice_split_none mark xs (λ k d h. missed_before mark xs k d (omega arith))
+
+  -- with a second part, the first part and its mark lie within, and the rest begins past them
+  pub second_part : 1 < length (parts m xs) → (length (get_or (parts m xs) 0 []) < length xs) × (parts m (drop (suc (length (get_or (parts m xs) 0 []))) xs) ≡ drop 1 (parts m xs))
+  second_part h =
+      ⊎_elim (λ w. let e = cut_some w.0 w.1 in
+      let lt = (found_at mark xs w.0 w.1).1 in
+      let l = ap (λ (ps : List (List ℕ)). length (get_or ps 0 [])) e ∙ length-take-le w.0 xs (omega arith) in
+      let at : suc (length (get_or (parts m xs) 0 [])) ≡ w.0 + 1 = omega arith in
+      (omega arith, ap (λ (k : ℕ). parts m (drop k xs)) at ∙ sym (ap (drop 1) e)))
+      (λ e. absurd (let l = ap length (cut_none e) in let z : ⊥ = omega arith in z)) (somewhere mark xs (position mark xs) refl)

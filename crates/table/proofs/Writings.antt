@@ -1,17 +1,22 @@
 -- A field says a number just where it is the number's decimal writing.
-use Rattle.std.proofs.Common.{◌≡◌, ℕ, zero, suc, ◌+◌, ◌-◌, ◌*◌, ◌^◌, ◌<◌, ◌≤◌, Bool, true, ◌&&◌, ◌||◌, eqb, ltb, leb, ◌⊎◌, List, [], ◌∷◌, length, get_or, ℤ, pos, negsuc, nat_abs, Some, None, decimal, Option, sym, refl, ap, ◌∙◌, subst, inl, inr, ⊎_elim, arith, rules, ltb-false, ne_eqb, le-leb}
+use Rattle.std.proofs.Common.{◌≡◌, ℕ, zero, suc, ◌+◌, ◌-◌, ◌*◌, ◌^◌, ◌<◌, ◌≤◌, Bool, true, false, ◌&&◌, ◌||◌, eqb, ltb, leb, ◌⊎◌, List, [], ◌∷◌, length, get_or, ℤ, pos, negsuc, nat_abs, Some, None, Ok, Err, decimal, Option, Result, sym, refl, ap, ◌∙◌, subst, inl, inr, ⊎_elim, arith, rules, ltb-false, ne_eqb, le-leb, le-ltb}
 use Rattle.std.specs.Fmt.{signed_decimal}
-use Rattle.std.proofs.lemmas.Fmt.{decimal_nonempty, length-decimal-le, first_decimal, digits_decimal, digits_value-decimal, decimal-digits_value, decimal_digit}
-use Rattle.std.proofs.lemmas.Str.Parse.{IsNumeralModel, numerals_by_fold}
-use Rattle.std.proofs.lemmas.Bool.{and_parts, or_parts, cond-true, cond-false, cases_Bool, cases_eq, and_cases, eqb-true, eqb-false, leb-true}
+use Rattle.std.specs.Option.{SomeIff}
+use Rattle.std.specs.Result.{result_ok, MatchResult}
+use Rattle.std.specs.Str.{IsUtf8}
+use Rattle.std.specs.Str.Parse.{AllDigits, IsNumeral, digits_value}
+use Rattle.std.proofs.lemmas.Str.{IsUtf8-from_ascii}
+use Rattle.std.proofs.lemmas.Fmt.{decimal_nonempty, length-decimal-le, first_decimal, digits_decimal, digits_value-decimal, decimal-digits_value, decimal_digit, decimal_is_IsNumeral, IsAscii-from_digits}
+use Rattle.std.proofs.lemmas.Str.Parse.{IsNumeralModel, numerals_by_fold, numerals_by_value, tells_digits}
+use Rattle.std.proofs.lemmas.Bool.{and_parts, or_parts, cond-true, cond-false, and_left, and_right, or_from, cases_Bool, cases_eq, and_cases, eqb-true, eqb-false, leb-true}
 use Rattle.table.specs.Number.{is_digit_byte, read_on, capped, magnitude_of, minus, plain, number_of, Says}
-use Rattle.table.proofs.Digits.{gate}
+use Rattle.table.proofs.Variants.{some_none, some_same}
 
-some_none : {A : Type 0} {a : A} → Some a ≡ None → ⊥
-some_none e = let z : ◌≡◌ {A = ℕ} 0 1 = cc in omega arith
-
-some_same : {A : Type 0} {a b : A} → Some a ≡ Some b → a ≡ b
-some_same e = cc
+gate : (ds : List ℕ) → (length ds ≡ 0 → ⊥) → length ds ≤ 10 → (((get_or ds 0 0 ≡ 48) × (length ds ≤ 1)) ⊎ (get_or ds 0 0 ≡ 48 → ⊥)) → magnitude_of ds ≡ capped (read_on 0 ds)
+gate ds n l e =
+    let a : (eqb (length ds) 0 || ltb 10 (length ds)) ≡ false = or_from _ _ (ne_eqb _ _ n) (le-ltb 10 (length ds) l) in
+    let b : (eqb (get_or ds 0 0) 48 && ltb 1 (length ds)) ≡ false = ⊎_elim (λ h. and_right _ _ (le-ltb 1 (length ds) h.1)) (λ h. and_left _ _ (ne_eqb _ _ h)) e in
+    cond-false _ _ _ a ∙ cond-false _ _ _ b
 
 -- digits, and what they are worth after a
 abbrev Digit : ℕ → Type 0
@@ -80,6 +85,33 @@ writes_magnitude n h =
     gate (decimal n) (λ e. let k : ⊥ = omega arith in k) short lead
     ∙ ap capped (digits_read 0 (decimal n) (digits_decimal own n small) ∙ ap (λ (m : ℕ). Some m) (digits_value-decimal own n small))
     ∙ cond-true (leb n 2147483647) _ _ (le-leb n 2147483647 h)
+
+-- what is read of digits that begin with 1 to 9
+bare : IsNumeralModel (AllDigits 10) (digits_value 10)
+bare = numerals_by_value (AllDigits 10) tells_digits
+
+no_ok : {A E U : Type 0} (S : A → Type 0) (V : E → Type 0) (r : Result A E) → result_ok r ≡ None → MatchResult r S (λ e. (U → ⊥) × V e) → U → ⊥
+no_ok S V (Ok a) e told = absurd (some_none e)
+no_ok S V (Err x) e told = told.0
+
+pub no_text : {A E : Type 0} (S : A → Type 0) (V : E → Type 0) (ds : List ℕ) (r : Result A E) → result_ok r ≡ None → MatchResult r S (λ e. (IsUtf8 ds → ⊥) × V e) → IsNumeral 10 ds → ⊥
+no_text S V ds r e told n = no_ok {U = IsUtf8 ds} S V r e told (IsUtf8-from_ascii ds (IsAscii-from_digits ds n.1))
+
+magnitude_by : (ds : List ℕ) (o p : Option ℕ) → magnitude_of ds ≡ p → ((m : ℕ) → o ≡ Some m → (ds ≡ decimal m) × (m ≤ 2147483647)) → ((m : ℕ) → o ≡ None → m ≤ 2147483647 → ds ≡ decimal m → ⊥) → o ≡ p
+magnitude_by ds None None e some none = refl
+magnitude_by ds None (Some m) e some none = let w = magnitude_writes ds m e in absurd (none m refl w.1 w.0)
+magnitude_by ds (Some n) p e some none = let w = some n refl in sym (writes_magnitude n w.1) ∙ ap magnitude_of (sym w.0) ∙ e
+
+pub read_is : (ds : List ℕ) (r : Option ℕ) → 48 < get_or ds 0 0 → SomeIff r (IsNumeral 10 ds × (digits_value 10 ds ≤ 2147483647)) (digits_value 10 ds) → r ≡ magnitude_of ds
+read_is ds None h told =
+    magnitude_by ds None (magnitude_of ds) refl (λ m e. absurd (some_none (sym e)))
+    (λ m e le w. let is = decimal_is_IsNumeral m (omega arith) in told (subst (IsNumeral 10) (sym w) is.0, let v = ap (digits_value 10) w ∙ is.1 in let k : digits_value 10 ds ≤ 2147483647 = omega arith in k))
+read_is ds (Some n) h told =
+    let v = told.1 in
+    let le = told.0.1 in
+    magnitude_by ds (Some n) (magnitude_of ds) refl
+    (λ m e. let s = some_same e in (sym (decimal-digits_value bare ds told.0.0.1 told.0.0.0 (λ z. absurd (omega arith)) (omega arith)) ∙ ap decimal (sym v ∙ s), let k : m ≤ 2147483647 = omega arith in k))
+    (λ m e. absurd (some_none e))
 
 minus_some : (o : Option ℕ) (z : ℤ) → minus o ≡ Some z → (k : ℕ) × (o ≡ Some (suc k)) × (negsuc k ≡ z)
 minus_some None z e = absurd (some_none (sym e))

@@ -1,12 +1,14 @@
 -- What a table of text says: its rows up to the first fault in reading order, and that fault.
-use Rattle.std.specs.Prelude.{◌≡◌, ℕ, zero, suc, ◌+◌, ◌-◌, ◌<◌, ◌≤◌, Bool, true, cond, ◌&&◌, ◌||◌, List, [], ◌∷◌, ◌++◌, map, length, drop, replicate, ℤ, pos, is_some, Some, None, Ok, Err, Option, Result, ◌==◌, nat_lt, slice_index, slice_index_or}
-use Rattle.std.specs.List.{range_with_len}
+use Rattle.std.specs.Prelude.{◌≡◌, ℕ, zero, suc, ◌+◌, ◌-◌, ◌<◌, ◌≤◌, Bool, true, cond, ◌&&◌, ◌||◌, List, [], ◌∷◌, ◌++◌, map, length, take, drop, replicate, ℤ, pos, is_some, Some, None, Ok, Err, Option, Result, ◌==◌, nat_eq, nat_lt, slice_index, slice_index_or}
+use Rattle.std.specs.Option.{option_eq}
 use Rattle.table.specs.declared.table.Table.{Table}
 use Rattle.refusal.specs.declared.Fault.{Fault}
+use Rattle.refusal.specs.declared.Refusal.{Refusal}
+use Rattle.refusal.specs.declared.Refusal.TheVariants.{TextStart, LineEnd, FieldCount, ColumnName, FieldValue}
 use Rattle.refusal.specs.Numbers.{fault}
 use Rattle.table.specs.Text.{fields, lines, LinePart}
 use Rattle.table.specs.Number.{number_of}
-use Rattle.table.specs.Names.{column_names, place_in, packed, place_of}
+use Rattle.table.specs.Names.{column_names, position_of, place_in, known, places_of}
 
 -- what comes next, unless there was a fault
 abbrev pub and_then : {X Y : Type 0} → Result X Fault → (X → Result Y Fault) → Result Y Fault
@@ -19,13 +21,13 @@ unfit text = length text == 0 || nat_lt 65536 (length text) || nat_lt (slice_ind
 
 -- 1: the text is unfit
 abbrev pub opened_text : List ℕ → Result (List ℕ) Fault
-opened_text text = cond (unfit text) (Err (fault 1 1 0)) (Ok text)
+opened_text text = cond (unfit text) (Err (fault TextStart 1 0)) (Ok text)
 
 -- the line numbered n, which stands first among these
 -- 2: it has no line feed, or over 200 bytes before it; 3: not as many fields as the table
 abbrev pub line_at : ℕ → ℕ → List (List ℕ) → Result (List ℕ) Fault
-line_at count n [] = Err (fault 2 n 0)
-line_at count n (l ∷ ls) = cond (length ls == 0 || nat_lt 200 (length l)) (Err (fault 2 n 0)) (cond (length (fields l) == count) (Ok l) (Err (fault 3 n 0)))
+line_at count n [] = Err (fault LineEnd n 0)
+line_at count n (l ∷ ls) = cond (length ls == 0 || nat_lt 200 (length l)) (Err (fault LineEnd n 0)) (cond (length (fields l) == count) (Ok l) (Err (fault FieldCount n 0)))
 
 -- the first field that is not good, counted from 1; the fields begin at place i, counted from 0
 abbrev pub first_not : (ℕ → List ℕ → Bool) → ℕ → List (List ℕ) → Option ℕ
@@ -33,23 +35,23 @@ first_not good i [] = None
 first_not good i (f ∷ fs) = cond (good i f) (first_not good (i + 1) fs) (Some (i + 1))
 
 -- the fields, unless one is not good: then the refusal at the first of those
-abbrev pub unless : ℕ → ℕ → List (List ℕ) → Option ℕ → Result (List (List ℕ)) Fault
+abbrev pub unless : Refusal → ℕ → List (List ℕ) → Option ℕ → Result (List (List ℕ)) Fault
 unless refusal n fs None = Ok fs
 unless refusal n fs (Some column) = Err (fault refusal n column)
 
-abbrev pub checked : (ℕ → List ℕ → Bool) → ℕ → ℕ → List (List ℕ) → Result (List (List ℕ)) Fault
+abbrev pub checked : (ℕ → List ℕ → Bool) → Refusal → ℕ → List (List ℕ) → Result (List (List ℕ)) Fault
 checked good refusal n fs = unless refusal n fs (first_not good 0 fs)
 
 -- a name of the table that stands here for the first time
 abbrev pub good_name : List (List ℕ) → List (List ℕ) → ℕ → List ℕ → Bool
-good_name ns heads i f = nat_lt (place_in ns f) (length ns) && place_in heads f == i
+good_name ns heads i f = known ns f && option_eq nat_eq (position_of heads f) (Some i)
 
 abbrev pub good_value : ℕ → List ℕ → Bool
 good_value i f = is_some (number_of f)
 
 -- the fields of the names line; 4: one is no name of the table, or repeats one
 abbrev pub heads_of : List (List ℕ) → List ℕ → Result (List (List ℕ)) Fault
-heads_of ns text = and_then (line_at (length ns) 1 (lines text)) (λ l. checked (good_name ns (fields l)) 4 1 (fields l))
+heads_of ns text = and_then (line_at (length ns) 1 (lines text)) (λ l. checked (good_name ns (fields l)) ColumnName 1 (fields l))
 
 -- the number that a field says
 abbrev pub or_zero : Option ℤ → ℤ
@@ -67,9 +69,9 @@ filled vs = vs ++ replicate (13 - length vs) (pos 0)
 abbrev pub row_under : List (List ℕ) → List (List ℕ) → List (List ℕ) → List ℤ
 row_under ns heads fs = filled (map (λ n. value_of (slice_index_or fs (place_in heads n) [])) ns)
 
--- the same by a packed order of columns
-abbrev pub row_by : ℕ → ℕ → List (List ℕ) → List ℤ
-row_by order count fs = filled (map (λ j. value_of (slice_index_or fs (place_of order j) [])) (range_with_len 0 count))
+-- the same by the places of a row's columns, of which the table has the first `count`
+abbrev pub row_by : List ℕ → ℕ → List (List ℕ) → List ℤ
+row_by places count fs = filled (map (λ place. value_of (slice_index_or fs place [])) (take count places))
 
 -- nothing stands after the last line feed
 abbrev pub ended : List (List ℕ) → Bool
@@ -78,7 +80,7 @@ ended (l ∷ ls) = length l + length ls == 0
 
 -- what is answered at the line numbered n: its row; none at the end; or its fault, 5: a field is not a whole number
 abbrev pub row_at : (List (List ℕ) → List ℤ) → ℕ → ℕ → List (List ℕ) → Result (Option (List ℤ)) Fault
-row_at row count n ls = cond (ended ls) (Ok None) (and_then (line_at count n ls) (λ l. and_then (checked good_value 5 n (fields l)) (λ fs. Ok (Some (row fs)))))
+row_at row count n ls = cond (ended ls) (Ok None) (and_then (line_at count n ls) (λ l. and_then (checked good_value FieldValue n (fields l)) (λ fs. Ok (Some (row fs)))))
 
 -- the whole: the rows up to the first fault, and that fault
 pub record Reading : Type 0 where
@@ -113,17 +115,17 @@ standing table text at line = line_at (length (column_names table)) (line + 1) (
 abbrev pub HandsOut : Table → List ℕ → ℕ → ℕ → List ℕ → Type 0
 HandsOut table text at line l = (standing table text at line ≡ Ok l) × LinePart text at l
 
--- what a row reader answers whose columns stand in this packed order, past `line` lines, whose bytes end at `at`
-abbrev pub next_in : Table → ℕ → List ℕ → ℕ → ℕ → Result (Option (List ℤ)) Fault
-next_in table order text at line = row_at (row_by order (length (column_names table))) (length (column_names table)) (line + 1) (lines (drop at text))
+-- what a row reader answers whose columns stand at these places, past `line` lines, whose bytes end at `at`
+abbrev pub next_in : Table → List ℕ → List ℕ → ℕ → ℕ → Result (Option (List ℤ)) Fault
+next_in table places text at line = row_at (row_by places (length (column_names table))) (length (column_names table)) (line + 1) (lines (drop at text))
 
 -- what is still to be read there
-abbrev pub left : Table → ℕ → List ℕ → ℕ → ℕ → Reading
-left table order text at line = rows_from (row_by order (length (column_names table))) (length (column_names table)) (line + 1) (lines (drop at text))
+abbrev pub left : Table → List ℕ → List ℕ → ℕ → ℕ → Reading
+left table places text at line = rows_from (row_by places (length (column_names table))) (length (column_names table)) (line + 1) (lines (drop at text))
 
--- the names line is accepted, and its columns stand in this packed order
-abbrev pub Named : Table → List ℕ → ℕ → Type 0
-Named table text order = (heads : List (List ℕ)) × (heads_of (column_names table) text ≡ Ok heads) × (order ≡ packed (column_names table) heads)
+-- the names line is accepted, and its columns stand at these places
+abbrev pub Named : Table → List ℕ → List ℕ → Type 0
+Named table text places = (heads : List (List ℕ)) × (heads_of (column_names table) text ≡ Ok heads) × (places ≡ places_of (column_names table) heads)
 
 -- the row numbered k, from 0; the fault before it; or none
 abbrev pub row_among : ℕ → List (List ℤ) → Option Fault → Result (Option (List ℤ)) Fault

@@ -1,18 +1,19 @@
 -- A text is cut into lines at each byte 10, a line into fields at each byte 32.
-use Rattle.std.specs.Prelude.{◌≡◌, ℕ, suc, ◌+◌, ◌<◌, cond, List, [], ◌∷◌, ◌++◌, length, take, drop, ◌==◌, ◌≢◌, slice_index, slice_index_or}
-
--- a byte put in front of the first part
-abbrev pub onto : ℕ → List (List ℕ) → List (List ℕ)
-onto x [] = (x ∷ []) ∷ []
-onto x (p ∷ ps) = (x ∷ p) ∷ ps
+use Rattle.std.specs.Prelude.{◌≡◌, ℕ, ◌+◌, ◌<◌, List, [], ◌∷◌, ◌++◌, length, take, drop, Some, None, Option, ◌==◌, ◌≢◌, count_by, slice_index, slice_index_or}
+use Rattle.std.specs.Borrow.{Bor}
+use Rattle.std.specs.List.{slice_split}
 
 -- the bytes between the marks: one part more than there are marks, empty parts too
 abbrev pub parts : ℕ → List ℕ → List (List ℕ)
-parts mark [] = [] ∷ []
-parts mark (x ∷ xs) = cond (x == mark) ([] ∷ parts mark xs) (onto x (parts mark xs))
+parts mark s = slice_split (λ x. x == mark) s
 
 abbrev pub fields : List ℕ → List (List ℕ)
 fields line = parts 32 line
+
+-- the fields of what is left of a line, none where nothing is left
+abbrev pub fields_in : Option (Bor (List ℕ)) → List (List ℕ)
+fields_in None = []
+fields_in (Some rest) = fields rest.now
 
 -- the lines, and last what stands after the last line feed: nothing, if every line has one
 abbrev pub lines : List ℕ → List (List ℕ)
@@ -20,8 +21,7 @@ lines text = parts 10 text
 
 -- how many line feeds a text has
 abbrev pub feeds : List ℕ → ℕ
-feeds [] = 0
-feeds (x ∷ xs) = cond (x == 10) (suc (feeds xs)) (feeds xs)
+feeds text = count_by (λ x. x == 10) text
 
 abbrev pub first_line : List ℕ → List ℕ
 first_line text = slice_index_or (lines text) 0 []

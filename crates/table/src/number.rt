@@ -1,53 +1,27 @@
-ghost use Rattle.std.specs.Prelude.{◌≡◌, ◌+◌, ◌-◌, ◌*◌, ◌<◌, ◌≤◌, IfSome};
-ghost use Rattle.table.specs.Number.{magnitude_of, number_of, minus, plain, Says};
+ghost use Rattle.std.specs.Prelude.{◌≡◌, ◌<◌, ◌≤◌, IfSome, slice_index};
+ghost use Rattle.table.specs.Number.{magnitude_of, number_of, Says};
 
 // The largest magnitude.
-const MOST: u64 = 2147483647;
+const MOST: u32 = 2147483647;
+
+// The number that digits write of which the first is 1 to 9, at most MOST.
+fn parsed(digits: &[u8]) -> Option<u32>
+    requires { 48 < slice_index digits.now 0 }
+    ensures { result ≡ magnitude_of digits.now }
+{
+    let number = str::from_utf8(digits).ok()?.parse().ok()?;
+    (number <= MOST).then_some(number)
+}
 
 // 1 to 10 digits with no leading zero but 0 itself, at most MOST.
 fn magnitude(digits: &[u8]) -> Option<u32>
     ensures value { result ≡ magnitude_of digits.now }
     ensures small { IfSome result (λ n. n ≤ 2147483647) }
 {
-    if digits.len() == 0 || digits.len() > 10 {
-        return None;
-    }
-    if digits[0] == b'0' && digits.len() > 1 {
-        return None;
-    }
-    let mut value: u64 = 0;
-    for d in digits {
-        if *d < b'0' || *d > b'9' {
-            return None;
-        }
-        value = value * 10 + (*d - b'0') as u64;
-    }
-    if value <= MOST {
-        Some(value as u32)
-    } else {
-        None
-    }
-}
-
-// The opposite; there is no -0.
-fn negated(m: Option<u32>) -> Option<i64>
-    requires { IfSome m (λ n. n ≤ 2147483647) }
-    ensures { result ≡ minus m }
-{
-    match m {
-        Some(n) => if n == 0 { None } else { Some(-(n as i64)) },
-        None => None,
-    }
-}
-
-// The same number, with a sign.
-fn kept(m: Option<u32>) -> Option<i64>
-    requires { IfSome m (λ n. n ≤ 2147483647) }
-    ensures { result ≡ plain m }
-{
-    match m {
-        Some(n) => Some(n as i64),
-        None => None,
+    match digits {
+        [b'1'..=b'9', ..] => parsed(digits),
+        [b'0'] => Some(0),
+        _ => None,
     }
 }
 
@@ -57,7 +31,7 @@ pub fn number(field: &[u8]) -> Option<i64>
     ensures says { Says field.now result }
 {
     match field {
-        [b'-', digits @ ..] => negated(magnitude(digits)),
-        digits => kept(magnitude(digits)),
+        [b'-', digits @ ..] => magnitude(digits).filter(|n| *n != 0).map(|n| -i64::from(n)),
+        digits => magnitude(digits).map(i64::from),
     }
 }

@@ -1,70 +1,78 @@
-ghost use Rattle.std.specs.Prelude.{◌≡◌, ℕ, ◌+◌, ◌<◌, ◌≤◌, [], length, drop, ◌≢◌, slice_index, slice_index_or};
-ghost use Rattle.table.specs.Text.{fields};
-ghost use Rattle.table.specs.Names.{held, place_in};
+ghost use Rattle.std.specs.Prelude.{◌≡◌, ◌^◌, ◌<◌, ◌≤◌, ◌==◌, ◌∷◌, length, position, IfOk, MatchResult};
+ghost use Rattle.std.specs.Iterator.{YieldsFirstRef, item_count};
+ghost use Rattle.table.specs.Text.{fields, fields_in, lines, first_line, LinePart};
+ghost use Rattle.table.specs.Names.{position_of};
+ghost use Rattle.table.specs.Reading.{line_at};
 
-// Where the byte first stands, or the length.
-pub fn find(s: &[u8], byte: u8) -> usize
-    ensures within { result ≤ length s.now }
-    ensures before { (k : ℕ) → k < result → slice_index s.now k ≢ byte }
-    ensures found { result < length s.now → slice_index s.now result ≡ byte }
+use refusal::{Fault, Refusal};
+
+// The most bytes of a line before its line feed.
+const LONGEST: usize = 200;
+
+// Where a byte first stands.
+pub fn find(s: &[u8], byte: u8) -> Option<usize>
+    ensures { result ≡ position (λ b. b == byte) s.now }
 {
-    for (i, x) in s.iter().enumerate() {
-        if *x == byte {
-            return i;
-        }
-    }
-    s.len()
+    s.iter().position(|b| *b == byte)
 }
 
-// How many fields a line has.
-pub fn count(line: &[u8]) -> usize
-    ensures { result ≡ length (fields line.now) }
+// The first field of a line, and what stands after its space, if it has one.
+fn split(line: &[u8]) -> (&[u8], Option<&[u8]>)
+    ensures { fields line.now ≡ result.0.now ∷ fields_in result.1 }
 {
-    let mut n = 1;
-    for x in line {
-        if *x == b' ' {
-            n += 1;
-        }
+    match find(line, b' ') {
+        Some(n) => (&line[..n], Some(&line[n + 1..])),
+        None => (line, None),
     }
-    n
 }
 
-// The first field of a line, and what stands after its space.
-pub fn split(line: &[u8]) -> (&[u8], &[u8])
-    ensures field { result.0.now ≡ slice_index_or (fields line.now) 0 [] }
-    ensures rest { 1 < length (fields line.now) → fields result.1.now ≡ drop 1 (fields line.now) }
-{
-    let n = find(line, b' ');
-    if n == line.len() {
-        return (line, &line[n..]);
-    }
-    (&line[0..n], &line[n + 1..])
+// The fields of a line, one after another.
+#[derive(Drop)]
+pub struct Fields<'a> {
+    rest: Option<&'a [u8]>,
 }
 
-// The place of a field in a line, or how many fields the line has.
-pub fn place_in(line: &[u8], field: &[u8]) -> usize
-    ensures { result ≡ place_in (fields line.now) field.now }
-{
-    let mut rest = line;
-    let n = count(line);
-    for i in 0..n {
-        let (here, after) = split(rest);
-        if here == field {
-            return i;
-        }
-        rest = after;
+impl<'a> Fields<'a> {
+    pub fn of(line: &'a [u8]) -> Fields<'a>
+        ensures all { fields_in result.rest ≡ fields line.now }
+        ensures few { length (fields_in result.rest) ≤ 2 ^ 63 }
+    {
+        Fields { rest: Some(line) }
     }
-    n
 }
 
-// The place of a name among a table's names, or how many they are.
-pub fn column_of(names: &[&[u8]], name: &[u8]) -> usize
-    ensures { result ≡ place_in (held names.now) name.now }
-{
-    for (i, known) in names.iter().enumerate() {
-        if *known == name {
-            return i;
-        }
+impl<'a> Iterator for Fields<'a> {
+    type Item = &'a [u8];
+
+    ghost next_gives = { YieldsFirstRef (λ s. fields_in s.rest) };
+
+    ghost remaining = { item_count (λ s. fields_in s.rest) };
+
+    fn next(&mut self) -> Option<&'a [u8]> {
+        let (field, rest) = split(self.rest?);
+        self.rest = rest;
+        Some(field)
     }
-    names.len()
+}
+
+// The place where a field first stands in a line.
+pub fn place_in(line: &[u8], field: &[u8]) -> Option<usize>
+    ensures { result ≡ position_of (fields line.now) field.now }
+{
+    Fields::of(line).position(|f| f == field)
+}
+
+// The line that a text begins with, if it has a line feed, at most 200 bytes and the right number of fields.
+pub fn line_at(text: &[u8], columns: usize, number: usize) -> Result<&[u8], Fault>
+    ensures value { MatchResult result (λ l. line_at columns number (lines text.now) ≡ Ok l.now) (λ f. line_at columns number (lines text.now) ≡ Err f) }
+    ensures part { IfOk result (λ l. (l.now ≡ first_line text.now) × (length l.now < length text.now) × (length (fields l.now) ≡ columns) × LinePart text.now 0 l.now) }
+{
+    let line = match find(text, b'\n') {
+        Some(n) if n <= LONGEST => &text[..n],
+        _ => return Err(Fault::new(Refusal::LineEnd, number, 0)),
+    };
+    if Fields::of(line).count() != columns {
+        return Err(Fault::new(Refusal::FieldCount, number, 0));
+    }
+    Ok(line)
 }

@@ -12,186 +12,193 @@ mod tests {
     // Further than any table of a test has rows, so that its first fault comes before.
     const FAR: usize = 20000;
 
-    // The four numbers of the first fault, or 0 for each where there is none.
-    fn fault_of(table: Table, text: &[u8]) -> (u8, u8, usize, usize) {
-        match row(table, text, FAR) {
-            Ok(_) => (0, 0, 0, 0),
-            Err(f) => (f.number, f.layer, f.line, f.column),
-        }
+    // The numbers of a fault: refusal, layer, line and column.
+    fn numbers_of(fault: Fault) -> (u8, u8, usize, usize) {
+        (
+            fault.number(),
+            fault.layer().number(),
+            fault.line,
+            fault.column,
+        )
+    }
+
+    // The numbers of a text's first fault.
+    fn fault_of(table: Table, text: &[u8]) -> Option<(u8, u8, usize, usize)> {
+        row(table, text, FAR).err().map(numbers_of)
     }
 
     // A text of the areas table, and its first fault.
     struct Case {
         text: &'static [u8],
-        fault: (u8, u8, usize, usize),
+        fault: Option<(u8, u8, usize, usize)>,
     }
 
     const CASES: [Case; 40] = [
         // accepted
         Case {
             text: b"area node on\n",
-            fault: (0, 0, 0, 0),
+            fault: None,
         },
         Case {
             text: b"area node on\n3 0 1\n",
-            fault: (0, 0, 0, 0),
+            fault: None,
         },
         Case {
             text: b"on area node\n1 3 0\n0 4 1\n",
-            fault: (0, 0, 0, 0),
+            fault: None,
         },
         Case {
             text: b"area node on\n2147483647 -2147483647 0\n",
-            fault: (0, 0, 0, 0),
+            fault: None,
         },
         Case {
             text: b"area node on\n1234567890 -1 9\n",
-            fault: (0, 0, 0, 0),
+            fault: None,
         },
         // the text
         Case {
             text: b"",
-            fault: (1, 1, 1, 0),
+            fault: Some((1, 1, 1, 0)),
         },
         Case {
             text: b"3 0 1\n",
-            fault: (1, 1, 1, 0),
+            fault: Some((1, 1, 1, 0)),
         },
         Case {
             text: b"\narea node on\n",
-            fault: (1, 1, 1, 0),
+            fault: Some((1, 1, 1, 0)),
         },
         Case {
             text: b" area node on\n",
-            fault: (1, 1, 1, 0),
+            fault: Some((1, 1, 1, 0)),
         },
         Case {
             text: b"Area node on\n",
-            fault: (1, 1, 1, 0),
+            fault: Some((1, 1, 1, 0)),
         },
         Case {
             text: b"\x00area node on\n",
-            fault: (1, 1, 1, 0),
+            fault: Some((1, 1, 1, 0)),
         },
         Case {
             text: b"\xffarea node on\n",
-            fault: (1, 1, 1, 0),
+            fault: Some((1, 1, 1, 0)),
         },
         // the line feed
         Case {
             text: b"area node on",
-            fault: (2, 1, 1, 0),
+            fault: Some((2, 1, 1, 0)),
         },
         Case {
             text: b"area node on\n3 0 1",
-            fault: (2, 1, 2, 0),
+            fault: Some((2, 1, 2, 0)),
         },
         Case {
             text: b"area node on\n3 0 1\n4 0 1",
-            fault: (2, 1, 3, 0),
+            fault: Some((2, 1, 3, 0)),
         },
         // the number of fields
         Case {
             text: b"area node\n",
-            fault: (3, 1, 1, 0),
+            fault: Some((3, 1, 1, 0)),
         },
         Case {
             text: b"area node on \n",
-            fault: (3, 1, 1, 0),
+            fault: Some((3, 1, 1, 0)),
         },
         Case {
             text: b"area node on\n\n",
-            fault: (3, 1, 2, 0),
+            fault: Some((3, 1, 2, 0)),
         },
         Case {
             text: b"area node on\n3 0\n",
-            fault: (3, 1, 2, 0),
+            fault: Some((3, 1, 2, 0)),
         },
         Case {
             text: b"area node on\n3 0 1 \n",
-            fault: (3, 1, 2, 0),
+            fault: Some((3, 1, 2, 0)),
         },
         Case {
             text: b"area node on\n3  0 1\n",
-            fault: (3, 1, 2, 0),
+            fault: Some((3, 1, 2, 0)),
         },
         // the names
         Case {
             text: b"area Node on\n",
-            fault: (4, 1, 1, 2),
+            fault: Some((4, 1, 1, 2)),
         },
         Case {
             text: b"area area on\n",
-            fault: (4, 1, 1, 2),
+            fault: Some((4, 1, 1, 2)),
         },
         Case {
             text: b"area node off\n",
-            fault: (4, 1, 1, 3),
+            fault: Some((4, 1, 1, 3)),
         },
         Case {
             text: b"area  on\n",
-            fault: (4, 1, 1, 2),
+            fault: Some((4, 1, 1, 2)),
         },
         Case {
             text: b"area node on\r\n",
-            fault: (4, 1, 1, 3),
+            fault: Some((4, 1, 1, 3)),
         },
         Case {
             text: b"x y on\n",
-            fault: (4, 1, 1, 1),
+            fault: Some((4, 1, 1, 1)),
         },
         Case {
             text: b"area nod\xe9 on\n",
-            fault: (4, 1, 1, 2),
+            fault: Some((4, 1, 1, 2)),
         },
         // the values
         Case {
             text: b"area node on\n3 -0 007\n",
-            fault: (5, 2, 2, 2),
+            fault: Some((5, 2, 2, 2)),
         },
         Case {
             text: b"area node on\n3 0 007\n",
-            fault: (5, 2, 2, 3),
+            fault: Some((5, 2, 2, 3)),
         },
         Case {
             text: b"area node on\n+1 0 1\n",
-            fault: (5, 2, 2, 1),
+            fault: Some((5, 2, 2, 1)),
         },
         Case {
             text: b"area node on\n3 0 2147483648\n",
-            fault: (5, 2, 2, 3),
+            fault: Some((5, 2, 2, 3)),
         },
         Case {
             text: b"area node on\n-2147483648 0 1\n",
-            fault: (5, 2, 2, 1),
+            fault: Some((5, 2, 2, 1)),
         },
         Case {
             text: b"area node on\n3 12345678901 1\n",
-            fault: (5, 2, 2, 2),
+            fault: Some((5, 2, 2, 2)),
         },
         Case {
             text: b"area node on\n3  1\n",
-            fault: (5, 2, 2, 2),
+            fault: Some((5, 2, 2, 2)),
         },
         Case {
             text: b"area node on\n3 0 1\r\n",
-            fault: (5, 2, 2, 3),
+            fault: Some((5, 2, 2, 3)),
         },
         Case {
             text: b"area node on\n3 - 1\n",
-            fault: (5, 2, 2, 2),
+            fault: Some((5, 2, 2, 2)),
         },
         Case {
             text: b"area node on\n3 0 1\n3 0 \x00\n",
-            fault: (5, 2, 3, 3),
+            fault: Some((5, 2, 3, 3)),
         },
         Case {
             text: b"area node on\n3 \xb2 1\n",
-            fault: (5, 2, 2, 2),
+            fault: Some((5, 2, 2, 2)),
         },
         Case {
             text: b"area node on\n3 0 x\n3 0\n",
-            fault: (5, 2, 2, 3),
+            fault: Some((5, 2, 2, 3)),
         },
     ];
 
@@ -250,24 +257,8 @@ mod tests {
         let names = refused.names()?;
         let mut rows = refused.rows(names);
         assert!(rt; rows.next()?.is_some());
-        assert_eq!(rt;
-            rows.next(),
-            Err(Fault {
-                number: 5,
-                layer: 2,
-                line: 3,
-                column: 1,
-            })
-        );
-        assert_eq!(rt;
-            rows.next(),
-            Err(Fault {
-                number: 5,
-                layer: 2,
-                line: 3,
-                column: 1,
-            })
-        );
+        assert_eq!(rt; rows.next().map_err(numbers_of), Err((5, 2, 3, 1)));
+        assert_eq!(rt; rows.next().map_err(numbers_of), Err((5, 2, 3, 1)));
         let ended = Opened::new(Table::Areas, b"area node on\n3 0 1\n")?;
         let names = ended.names()?;
         let mut rows = ended.rows(names);
@@ -303,9 +294,9 @@ mod tests {
     #[test]
     fn line_of_200_bytes(rt: HostRuntime) -> Result<(), Fail> {
         let shorter = with_line(rt.alloc(), 200)?;
-        assert_eq!(rt; fault_of(Table::Areas, &shorter), (3, 1, 2, 0));
+        assert_eq!(rt; fault_of(Table::Areas, &shorter), Some((3, 1, 2, 0)));
         let longer = with_line(rt.alloc(), 201)?;
-        assert_eq!(rt; fault_of(Table::Areas, &longer), (2, 1, 2, 0));
+        assert_eq!(rt; fault_of(Table::Areas, &longer), Some((2, 1, 2, 0)));
         Ok(())
     }
 
@@ -323,12 +314,12 @@ mod tests {
     fn text_of_65536_bytes(rt: HostRuntime) -> Result<(), Fail> {
         let whole = full(rt.alloc(), b"10 10 10\n")?;
         assert_eq!(rt; whole.len(), 65536);
-        assert_eq!(rt; fault_of(Table::Areas, &whole), (0, 0, 0, 0));
+        assert_eq!(rt; fault_of(Table::Areas, &whole), None);
         assert!(rt; row(Table::Areas, &whole, 10919)?.is_some());
         assert_eq!(rt; row(Table::Areas, &whole, 10920)?, None);
         let longer = full(rt.alloc(), b"10 10 100\n")?;
         assert_eq!(rt; longer.len(), 65537);
-        assert_eq!(rt; fault_of(Table::Areas, &longer), (1, 1, 1, 0));
+        assert_eq!(rt; fault_of(Table::Areas, &longer), Some((1, 1, 1, 0)));
         Ok(())
     }
 }

@@ -1,37 +1,92 @@
--- The coordinates of a leg as the code has them.
-use Rattle.std.proofs.Common.{◌≡◌, ℤ, pos, ◌≤ℤ◌, sym, refl, subst, arith}
+-- Where a half-step lies, as the code has it.
+use Rattle.std.proofs.Common.{◌≡◌, ℕ, ◌+◌, ◌/◌, ◌<◌, ◌≤◌, min, Bool, true, false, ◌&&◌, ℤ, pos, negsuc, ◌-ℤ◌, ◌*ℤ◌, ◌≤ℤ◌, nat_abs, sym, ap, ◌∙◌, subst, arith, w64, to_z, SFits}
+use lib.Signed.{quot_z}
 use borrow.Author.Differences.{ints}
-use Rattle.integer.proofs.Absolute.{within_from}
-use Rattle.integer.proofs.Machine.{Is, stored, is, is_by, is_numeral, is_stored, is_sum, is_difference, is_product}
-use Rattle.integer.specs.Numbers.{Within}
-use Rattle.lattice.proofs.Places.{edge≥0, edge_to, at_place}
+use Rattle.std.proofs.lemmas.Int.{to_z-of_z}
+use Rattle.integer.proofs.Absolute.{within_from, within_abs_self}
+use Rattle.integer.proofs.Machine.{Is, stored, is, is_of, is_stored, is_difference}
+use Rattle.integer.specs.Numbers.{Within, absℤ}
+use Rattle.lattice.proofs.Places.{edge≥0, edge_to, in_its_cell}
 use Rattle.lattice.specs.Surface.{into}
 use Rattle.lattice.specs.Terrain.{from_edge, cell_of}
 use Rattle.leg.specs.Places.{OnLeg, coordinate}
+use Rattle.leg.specs.declared.shapes.HalfStep.{HalfStep}
+use Rattle.leg.specs.declared.shapes.Piece.{Piece}
+use Rattle.leg.proofs.Places.{coordinate_small}
+use Rattle.leg.proofs.Shaping.{piece_span}
+use Rattle.leg.specs.declared.shapes.Coordinate.{Coordinate}
+use Rattle.terrain.specs.Moves.{edge_at, cell_at, depth_at}
 
-pub coordinate_is : {a' b' s' a b s r : ℤ} → Is a' a 4096 → Is b' b 4096 → Is s' s 4096 → r ≡ coordinate a' b' s' (pos 1) → Is r (coordinate a b s (pos 1)) 50331648
-coordinate_is a b s e = is_by e (is_sum (is_product (is_product (is_numeral 4096) a) (is_numeral 1)) (is_product (is_difference b a) s))
+pub step_place : (step : HalfStep) → OnLeg (pos step.at) (pos 1)
+step_place step = let h = step.within in record { parts = record { le = tt }; from = omega (arith, ints); to = omega (arith, ints) }
 
-pub from_edge_is : {a' b' s' a b s r : ℤ} → Is a' a 4096 → Is b' b 4096 → Is s' s 4096 → r ≡ from_edge a' b' s' (pos 1) → Is r (from_edge a b s (pos 1)) 67108864
-from_edge_is a b s e = is_by e (is_sum (coordinate_is a b s refl) (is_product (is_numeral 16777216) (is_numeral 1)))
+pub edge_low : (run : Coordinate) (step : HalfStep) → pos 0 ≤ℤ edge_at run (pos step.at)
+edge_low run step = edge≥0 run.from run.to (pos step.at) (pos 1) run.from_small run.to_small (step_place step)
 
-pub half_step_is : {s : ℤ} → OnLeg s (pos 1) → Is (stored s) s 4096
-half_step_is {s} at = let low = at.from in let high = at.to in is_stored (is (within_from s (pos 4096) (omega (arith, ints)) (omega (arith, ints)))) tt
+pub edge_high : (run : Coordinate) (step : HalfStep) → edge_at run (pos step.at) ≤ℤ pos 33554432
+edge_high run step = edge_to run.from run.to (pos step.at) (pos 1) run.from_small run.to_small (step_place step)
 
-pub depth_is : (a b s : ℤ) → Within a (pos 4096) → Within b (pos 4096) → OnLeg s (pos 1) →
-    Within (into (pos 262144) (cell_of (pos 262144) (from_edge a b s (pos 1))) (from_edge a b s (pos 1))) (pos 262144)
-depth_is a b s a_in b_in at = plain _ (at_place a b s (pos 1) a_in b_in at).from (at_place a b s (pos 1) a_in b_in at).to
+-- ---- the same by the ends that the run was made of
+
+module _ (run : Coordinate) {a b : ℤ} (from : run.from ≡ a) (to : run.to ≡ b) where
+  -- what is answered at a half-step
+  pub scaled_is : (step : HalfStep) {r : ℤ} → r ≡ coordinate run.from run.to (pos step.at) (pos 1) → Is (stored r) (coordinate a b (pos step.at) (pos 1)) 16777216
+  scaled_is step e =
+      is_stored (is_of (e ∙ (λ t. coordinate (from t) (to t) (pos step.at) (pos 1))) (subst (λ (x : ℤ). Within x (pos 16777216)) (sym e) (coordinate_small run.from run.to step.at run.from_small run.to_small step.within))) tt
+
+  pub index_is : (s : ℤ) {n : ℕ} → n ≡ cell_at run s → n ≡ cell_of (pos 262144) (from_edge a b s (pos 1))
+  index_is s e = e ∙ (λ t. cell_of (pos 262144) (from_edge (from t) (to t) s (pos 1)))
+
+  pub depth_by : (s : ℤ) {d : ℤ} → d ≡ depth_at run s → d ≡ into (pos 262144) (cell_of (pos 262144) (from_edge a b s (pos 1))) (from_edge a b s (pos 1))
+  depth_by s e = e ∙ (λ t. into (pos 262144) (cell_of (pos 262144) (from_edge (from t) (to t) s (pos 1))) (from_edge (from t) (to t) s (pos 1)))
+
+  pub change_by : (r : ℤ) → (run.to -ℤ run.from) *ℤ r ≡ (b -ℤ a) *ℤ r
+  change_by r = λ t. (to t -ℤ from t) *ℤ r
+
+  pub distance_is : {r : ℤ} → r ≡ absℤ (run.to -ℤ run.from) → Is (stored r) (absℤ (b -ℤ a)) 8192
+  distance_is e =
+      is_stored (is_of (e ∙ (λ t. absℤ (to t -ℤ from t))) (subst (λ (x : ℤ). Within x (pos 8192)) (sym e) (within_abs_self (is_difference (is run.to_small) (is run.from_small)).small))) tt
+
+-- ---- a place u of the lattice
+
+quotient : (u : ℤ) → pos 0 ≤ℤ u → u ≤ℤ pos 33554432 → nat_abs (stored (quot_z (stored u) (pos 262144))) ≡ nat_abs u / 262144
+quotient (pos n) low high =
+    let fits : SFits w64 (pos n) = omega (arith, ints) in
+    let small : SFits w64 (pos (n / 262144)) = omega (arith, ints) in
+    ap (λ (x : ℤ). nat_abs (stored (quot_z x (pos 262144)))) (to_z-of_z w64 (pos n) fits) ∙ ap nat_abs (to_z-of_z w64 (pos (n / 262144)) small)
+quotient (negsuc n) low high = absurd low.le
+
+module _ (u : ℤ) (low : pos 0 ≤ℤ u) (high : u ≤ℤ pos 33554432) where
+  pub cell_is : {n : ℕ} → n ≡ min (nat_abs (stored (quot_z (stored u) (pos 262144)))) 127 → n ≡ cell_of (pos 262144) u
+  unfolding cell_of
+  cell_is e = e ∙ ap (λ (d : ℕ). min d 127) (quotient u low high)
+
+  pub depth_small : Within (into (pos 262144) (cell_of (pos 262144) u) u) (pos 262144)
+  depth_small = plain _ (in_its_cell (pos 262144) u (record { le = tt }) low high).from (in_its_cell (pos 262144) u (record { le = tt }) low high).to
+    where
+      plain : (f : ℤ) → pos 0 ≤ℤ f → f ≤ℤ pos 262144 → Within f (pos 262144)
+      plain f low high = within_from f (pos 262144) (omega (arith, ints)) (omega (arith, ints))
+
+  pub depth_is : (n : ℕ) → n < 128 → stored (stored u -ℤ stored (pos 262144 *ℤ to_z w64 n)) ≡ into (pos 262144) n u
+  depth_is n n< = omega (arith, ints)
+
+  pub depth_in : {n : ℕ} → n < 128 → n ≡ min (nat_abs (stored (quot_z (stored u) (pos 262144)))) 127 →
+      stored (stored u -ℤ stored (pos 262144 *ℤ to_z w64 n)) ≡ into (pos 262144) (cell_of (pos 262144) u) u
+  depth_in {n} n< e = depth_is n n< ∙ ap (λ (i : ℕ). into (pos 262144) i u) (cell_is e)
+
+-- the two ways through `first && last`
+pub and_then : {t u x y : Bool} → t ≡ true → t ≡ x → u ≡ y → u ≡ (x && y)
+and_then {y} taken first last = last ∙ ap (λ (z : Bool). z && y) (sym taken ∙ first)
+
+pub and_else : {t x : Bool} (y : Bool) → t ≡ false → t ≡ x → t ≡ (x && y)
+and_else y left first = left ∙ ap (λ (z : Bool). z && y) (sym left ∙ first)
+
+-- ---- a piece lies on the leg
+
+pub half_small : (piece : Piece) → Within (pos piece.half) (pos 2048)
+half_small piece =
+    let some = piece.made.0 in let span = piece_span piece.middle piece.half piece.made in
+    plain piece.middle piece.half span.0 span.1
   where
-    plain : (f : ℤ) → pos 0 ≤ℤ f → f ≤ℤ pos 262144 → Within f (pos 262144)
-    plain f low high = within_from f (pos 262144) (omega (arith, ints)) (omega (arith, ints))
-
--- a place as it is stored, from an answer of `from_edge_at` to stored arguments
-pub edge_is : {a b s r : ℤ} → Within a (pos 4096) → Within b (pos 4096) → OnLeg s (pos 1) → r ≡ from_edge (stored a) (stored b) (stored s) (pos 1) →
-    Is (stored r) (from_edge a b s (pos 1)) 67108864
-edge_is a_in b_in at e = is_stored (from_edge_is (is_stored (is a_in) tt) (is_stored (is b_in) tt) (half_step_is at) e) tt
-
-pub edge_low : {a b s r : ℤ} → Within a (pos 4096) → Within b (pos 4096) → OnLeg s (pos 1) → r ≡ from_edge (stored a) (stored b) (stored s) (pos 1) → pos 0 ≤ℤ stored r
-edge_low {a} {b} {s} a_in b_in at e = subst (λ (x : ℤ). pos 0 ≤ℤ x) (sym (edge_is a_in b_in at e).same) (edge≥0 a b s (pos 1) a_in b_in at)
-
-pub edge_high : {a b s r : ℤ} → Within a (pos 4096) → Within b (pos 4096) → OnLeg s (pos 1) → r ≡ from_edge (stored a) (stored b) (stored s) (pos 1) → stored r ≤ℤ pos 33554432
-edge_high {a} {b} {s} a_in b_in at e = subst (λ (x : ℤ). x ≤ℤ pos 33554432) (sym (edge_is a_in b_in at e).same) (edge_to a b s (pos 1) a_in b_in at)
+    plain : (m r : ℕ) → r ≤ m → m + r ≤ 4096 → Within (pos r) (pos 2048)
+    plain m r h l = within_from (pos r) (pos 2048) (omega (arith, ints)) (omega (arith, ints))

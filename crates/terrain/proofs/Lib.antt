@@ -1,9 +1,7 @@
-pub mod Running
+pub mod Greatest
 pub mod Corners
 pub mod Coordinates
-pub mod Spots
-pub mod Ends
 pub mod Sizes
-pub mod Files
 pub mod Grounds
+pub mod Files
 pub mod Lattices

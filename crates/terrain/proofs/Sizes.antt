@@ -1,5 +1,5 @@
 -- Bounds on the numbers of a form that an operation makes, from bounds on its arguments.
-use Rattle.std.proofs.Common.{ℕ, ◌+◌, ◌*◌, ◌≤◌, T, leb, ℤ, pos, ◌≤ℤ◌, arith, leb→le}
+use Rattle.std.proofs.Common.{◌≡◌, ℕ, ◌+◌, ◌*◌, ◌≤◌, T, leb, ℤ, pos, ◌≤ℤ◌, sym, subst, arith, leb→le}
 use borrow.Author.Differences.{ints}
 use Rattle.integer.specs.Numbers.{Within}
 use Rattle.integer.proofs.Absolute.{within_abs_self, within_neg, within_sum, within_product, within_wider}
@@ -13,6 +13,10 @@ wider k l h w = within_wider w (go h)
   where
     go : k ≤ l → pos k ≤ℤ pos l
     go m = omega (arith, ints)
+
+-- a form that is equal
+pub bounded_by : {k : ℕ} {u v : Form} → u ≡ v → Bounded k v → Bounded k u
+bounded_by {k} e b = subst (λ (w : Form). Bounded k w) (sym e) b
 
 pub bounded_wider : {k l : ℕ} {u : Form} → Bounded k u → T (leb k l) → Bounded l u
 bounded_wider {k} {l} a t = let h = leb→le k l t in record { first = wider k l h a.first; second = wider k l h a.second; third = wider k l h a.third }

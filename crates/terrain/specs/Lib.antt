@@ -1,3 +1,3 @@
 pub mod Rows
-pub mod Moves
 pub mod Fitting
+pub mod Moves

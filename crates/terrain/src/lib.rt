@@ -4,10 +4,12 @@
 mod bounds;
 mod cell;
 mod grid;
+mod heights;
 mod making;
 mod places;
 mod rows;
-mod steps;
+mod scale;
+mod surface;
 mod terrain;
 mod worked;
 

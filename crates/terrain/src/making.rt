@@ -5,9 +5,8 @@ ghost use Rattle.lattice.specs.Terrain.{greatest_step};
 ghost use Rattle.lattice.specs.Meaning.{SteepBetween};
 ghost use Rattle.terrain.specs.Rows.{heights_of, row_refusal, file_refusal, file_heights};
 
-use crate::grid::Lattice;
-use crate::rows::{all_in_range, file_in_range, file_row};
-use crate::steps::largest_step;
+use crate::grid::{Heights, Lattice};
+use crate::rows::{HEIGHTS, check, file_row, height_of};
 use refusal::Refusal;
 use std::alloc::{AllocError, Global};
 
@@ -16,52 +15,39 @@ impl Lattice {
     pub fn fits(heights: &[i16]) -> Result<(), Refusal>
         ensures { MatchResult result (λ _. row_refusal heights.now ≡ 0) (λ e. number_of e ≡ row_refusal heights.now) }
     {
-        if heights.len() != 16641 {
-            return Err(Refusal::LatticeSize);
-        }
-        if all_in_range(heights) {
-            Ok(())
-        } else {
-            Err(Refusal::HeightRange)
-        }
+        check(heights.len() == HEIGHTS, heights.iter().copied())
     }
 
     // The lattice of a row that fits.
     pub fn new(heights: Vec<i16>) -> Lattice
         requires { row_refusal heights.items ≡ 0 }
-        ensures { result.heights ≡ heights }
+        ensures { result.heights.row ≡ heights }
     {
-        let largest = largest_step(heights.as_slice()) as i64;
+        let heights = Heights { row: heights };
+        let largest = heights.largest_step() as i64;
         Lattice { heights, largest }
     }
 
-    // Whether the bytes of a file are a lattice's heights.
+    // Whether the bytes of a file are a lattice's heights, two bytes each.
     pub fn file_fits(bytes: &[u8]) -> Result<(), Refusal>
         ensures { MatchResult result (λ _. file_refusal bytes.now ≡ 0) (λ e. number_of e ≡ file_refusal bytes.now) }
     {
-        if bytes.len() != 33282 {
-            return Err(Refusal::LatticeSize);
-        }
-        if file_in_range(bytes) {
-            Ok(())
-        } else {
-            Err(Refusal::HeightRange)
-        }
+        let (pairs, _) = bytes.as_chunks::<2>();
+        check(bytes.len() == 2 * HEIGHTS, pairs.iter().map(height_of))
     }
 
     // The lattice of a file that fits.
     pub fn from_file(heap: Global, bytes: &[u8]) -> Result<Lattice, AllocError>
         requires { file_refusal bytes.now ≡ 0 }
-        ensures { IfOk result (λ lattice. lattice.heights.items ≡ file_heights bytes.now) }
+        ensures { IfOk result (λ lattice. lattice.heights.row.items ≡ file_heights bytes.now) }
     {
-        let row = file_row(heap, bytes)?;
-        Ok(Lattice::new(row))
+        Ok(Lattice::new(file_row(heap, bytes)?))
     }
 
     // The largest difference of heights next to each other in x or y. It bounds the steepness between any two places of a leg.
     pub fn largest_step(&self) -> i64
-        ensures value { result ≡ pos (greatest_step (heights_of self.now.heights.items)) }
-        ensures between { SteepBetween (heights_of self.now.heights.items) }
+        ensures value { result ≡ pos (greatest_step (heights_of self.now.heights.row.items)) }
+        ensures between { SteepBetween (heights_of self.now.heights.row.items) }
     {
         self.largest
     }

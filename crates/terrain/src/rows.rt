@@ -1,63 +1,54 @@
 // Rows of heights, and the bytes of a file.
-ghost use Rattle.std.specs.Prelude.{◌≡◌, ℕ, ◌<◌, length, pos, IfOk, slice_index_or};
-ghost use Rattle.terrain.specs.Rows.{heights_of, in_range, every, row_refusal, height_in_file, file_heights};
+ghost use Rattle.std.specs.Prelude.{◌≡◌, List, ℤ, MatchResult, IfOk};
+ghost use Rattle.std.specs.List.{list_all};
+ghost use Rattle.std.specs.Iterator.{IsFinite, AlwaysYields};
+ghost use Rattle.refusal.specs.Numbers.{number_of};
+ghost use Rattle.terrain.specs.Rows.{in_range, refusal_by, height_of, file_heights};
 
+use refusal::Refusal;
 use std::alloc::{AllocError, Global};
 
+// How many heights stand on one row or column of the lattice, and on the whole. Clauses write numbers out, so that a wrong constant is refused.
+pub(crate) const SIDE: usize = 129;
+
+pub(crate) const HEIGHTS: usize = 16641;
+
+// From -16 to 300.
 fn in_range(height: i16) -> bool
     ensures { result ≡ in_range height }
 {
-    -16 <= height && height <= 300
+    (-16..=300).contains(&height)
 }
 
-pub(crate) fn all_in_range(heights: &[i16]) -> bool
-    requires { length heights.now ≡ 16641 }
-    ensures { result ≡ every 16641 (λ (k : ℕ). in_range (slice_index_or heights.now k (pos 0))) }
+// A height by its two bytes.
+pub(crate) fn height_of(pair: &[u8; 2]) -> i16
+    ensures { result ≡ height_of pair.now }
 {
-    let mut good = true;
-    for k in 0..16641 {
-        good = good & in_range(heights[k]);
+    i16::from_be_bytes(*pair)
+}
+
+// The first refusal that fits heights, whose number is right or not.
+pub(crate) fn check<I: Iterator<Item = i16> + Drop>(
+    sized: bool,
+    mut heights: I,
+) -> Result<(), Refusal>
+    requires can { I.can_next heights }
+    requires finite { IsFinite (I.remaining heights) }
+    ensures { (hs : List ℤ) → AlwaysYields I.next_gives (λ h. h) heights hs → MatchResult result (λ _. refusal_by sized (list_all in_range hs) ≡ 0) (λ e. number_of e ≡ refusal_by sized (list_all in_range hs)) }
+{
+    if !sized {
+        Err(Refusal::LatticeSize)
+    } else if heights.all(in_range) {
+        Ok(())
+    } else {
+        Err(Refusal::HeightRange)
     }
-    good
-}
-
-// Height number k of a file.
-fn file_height(bytes: &[u8], k: usize) -> i16
-    requires { (length bytes.now ≡ 33282) × (k < 16641) }
-    ensures { result ≡ height_in_file bytes.now k }
-{
-    let high = bytes[2 * k];
-    let low = bytes[2 * k + 1];
-    i16::from_be_bytes([high, low])
-}
-
-pub(crate) fn file_in_range(bytes: &[u8]) -> bool
-    requires { length bytes.now ≡ 33282 }
-    ensures { result ≡ every 16641 (λ (k : ℕ). in_range (height_in_file bytes.now k)) }
-{
-    let mut good = true;
-    for k in 0..16641 {
-        good = good & in_range(file_height(bytes, k));
-    }
-    good
 }
 
 // The row that a file holds.
 pub(crate) fn file_row(heap: Global, bytes: &[u8]) -> Result<Vec<i16>, AllocError>
-    requires { length bytes.now ≡ 33282 }
     ensures { IfOk result (λ row. row.items ≡ file_heights bytes.now) }
 {
-    let mut row = Vec::with_capacity(heap, 16641)?;
-    for k in 0..16641 {
-        row.push_reserved(file_height(bytes, k));
-    }
-    Ok(row)
-}
-
-// Height (i, j).
-pub(crate) fn height(heights: &[i16], i: usize, j: usize) -> i64
-    requires { (row_refusal heights.now ≡ 0) × ((i < 129) × (j < 129)) }
-    ensures { result ≡ heights_of heights.now i j }
-{
-    heights[129 * j + i] as i64
+    let (pairs, _) = bytes.as_chunks::<2>();
+    pairs.iter().map(height_of).collect(heap)
 }

@@ -3,28 +3,22 @@
 
 use affine::Form;
 use field::Field;
-use leg::{HalfStep, Leg, Piece};
+use leg::{HalfStep, Leg, Piece, Point};
 use refusal::Refusal;
 use std::alloc::{AllocError, Global};
+use std::iter;
 use terrain::Lattice;
 
 // Height number k is k² in 317, less 16.
 fn rough_row(heap: Global) -> Result<Vec<i16>, AllocError> {
-    let mut row = Vec::new(heap);
-    for k in 0..16641u64 {
-        row.push((k * k % 317) as i16 - 16)?;
-    }
-    Ok(row)
+    (0..16641u64)
+        .map(|k| (k * k % 317) as i16 - 16)
+        .collect(heap)
 }
 
 // A file with one height everywhere, by its two bytes.
 fn flat_file(heap: Global, high: u8, low: u8) -> Result<Vec<u8>, AllocError> {
-    let mut bytes = Vec::new(heap);
-    for _ in 0..16641 {
-        bytes.push(high)?;
-        bytes.push(low)?;
-    }
-    Ok(bytes)
+    iter::repeat_n([high, low], 16641).flatten().collect(heap)
 }
 
 fn lattice_of(row: Vec<i16>) -> Result<Lattice, Refusal> {
@@ -32,14 +26,8 @@ fn lattice_of(row: Vec<i16>) -> Result<Lattice, Refusal> {
     Ok(Lattice::new(row))
 }
 
-// The lattice of a file, or nothing where there is no memory for it.
-fn lattice_of_file(heap: Global, bytes: &[u8]) -> Result<Option<Lattice>, Refusal> {
-    Lattice::file_fits(bytes)?;
-    Ok(Lattice::from_file(heap, bytes).ok())
-}
-
 fn value_at(lattice: &Lattice, leg: &Leg, step: i64) -> Result<i64, Refusal> {
-    Ok(lattice.value(leg, HalfStep::new(step)?))
+    Ok(lattice.value(leg, HalfStep::try_from(step)?))
 }
 
 fn bound_on(lattice: &Lattice, leg: &Leg, middle: i64, half: i64) -> Result<Form, Refusal> {
@@ -100,8 +88,9 @@ mod tests {
     #[test]
     fn level_over_a_file_of_10(rt: HostRuntime) -> Result<(), Fail> {
         let bytes = flat_file(rt.alloc(), 0, 10)?;
-        let lattice = lattice_of_file(rt.alloc(), bytes.as_slice())?.ok_or("no memory")?;
-        let above = Leg::new(4096, 4096, 11, -4096, -4096, 11)?;
+        Lattice::file_fits(bytes.as_slice())?;
+        let lattice = Lattice::from_file(rt.alloc(), bytes.as_slice())?;
+        let above = Leg::new(Point::new(4096, 4096, 11), Point::new(-4096, -4096, 11))?;
         assert_eq!(rt; value_at(&lattice, &above, 4096)?, 1 << 36);
         Ok(())
     }
@@ -109,9 +98,9 @@ mod tests {
     #[test]
     fn level_over_heights_of_10(rt: HostRuntime) -> Result<(), Fail> {
         let lattice = lattice_of(vec![in rt.alloc(); 10i16; 16641]?)?;
-        let above = Leg::new(-4096, 4096, 11, 4096, 17, 11)?;
+        let above = Leg::new(Point::new(-4096, 4096, 11), Point::new(4096, 17, 11))?;
         assert_eq!(rt; value_at(&lattice, &above, 1234)?, 1 << 36);
-        let level = Leg::new(-4096, 4096, 10, 4096, 17, 10)?;
+        let level = Leg::new(Point::new(-4096, 4096, 10), Point::new(4096, 17, 10))?;
         assert_eq!(rt; value_at(&lattice, &level, 0)?, 0);
         Ok(())
     }
@@ -119,7 +108,7 @@ mod tests {
     #[test]
     fn corners(rt: HostRuntime) -> Result<(), Fail> {
         let lattice = lattice_of(rough_row(rt.alloc())?)?;
-        let leg = Leg::new(-4096, -4096, 100, 4096, 4096, 100)?;
+        let leg = Leg::new(Point::new(-4096, -4096, 100), Point::new(4096, 4096, 100))?;
         assert_eq!(rt; value_at(&lattice, &leg, 0)?, 7971459301376);
         assert_eq!(rt; value_at(&lattice, &leg, 1)?, 7636116307968);
         assert_eq!(rt; value_at(&lattice, &leg, 2048)?, 3779571220480);
@@ -148,7 +137,7 @@ mod tests {
     #[test]
     fn other_corners(rt: HostRuntime) -> Result<(), Fail> {
         let lattice = lattice_of(rough_row(rt.alloc())?)?;
-        let leg = Leg::new(-4096, 4096, 0, 4096, -4096, 660)?;
+        let leg = Leg::new(Point::new(-4096, 4096, 0), Point::new(4096, -4096, 660))?;
         assert_eq!(rt; value_at(&lattice, &leg, 0)?, -9208409882624);
         assert_eq!(rt; value_at(&lattice, &leg, 1)?, -9123986931712);
         assert_eq!(rt; value_at(&lattice, &leg, 2048)?, 19585050869760);
@@ -169,7 +158,7 @@ mod tests {
     #[test]
     fn along_a_border_of_cells(rt: HostRuntime) -> Result<(), Fail> {
         let lattice = lattice_of(rough_row(rt.alloc())?)?;
-        let leg = Leg::new(-3776, -4096, 50, -3776, 4096, 50)?;
+        let leg = Leg::new(Point::new(-3776, -4096, 50), Point::new(-3776, 4096, 50))?;
         assert_eq!(rt; value_at(&lattice, &leg, 0)?, 2817498546176);
         assert_eq!(rt; value_at(&lattice, &leg, 1)?, 2433098973184);
         assert_eq!(rt; value_at(&lattice, &leg, 2048)?, 1511828488192);
@@ -206,7 +195,7 @@ mod tests {
     #[test]
     fn along_the_high_edge(rt: HostRuntime) -> Result<(), Fail> {
         let lattice = lattice_of(rough_row(rt.alloc())?)?;
-        let leg = Leg::new(4096, -64, 200, 4096, 0, -16)?;
+        let leg = Leg::new(Point::new(4096, -64, 200), Point::new(4096, 0, -16))?;
         assert_eq!(rt; value_at(&lattice, &leg, 0)?, 3229815406592);
         assert_eq!(rt; value_at(&lattice, &leg, 1)?, 3225788874752);
         assert_eq!(rt; value_at(&lattice, &leg, 2048)?, -5016521801728);
@@ -227,7 +216,7 @@ mod tests {
     #[test]
     fn across_one_cell(rt: HostRuntime) -> Result<(), Fail> {
         let lattice = lattice_of(rough_row(rt.alloc())?)?;
-        let leg = Leg::new(-64, 0, 20, 0, 64, 300)?;
+        let leg = Leg::new(Point::new(-64, 0, 20), Point::new(0, 64, 300))?;
         assert_eq!(rt; value_at(&lattice, &leg, 0)?, -12850542149632);
         assert_eq!(rt; value_at(&lattice, &leg, 1)?, -12843998793728);
         assert_eq!(rt; value_at(&lattice, &leg, 2048)?, 1563368095744);

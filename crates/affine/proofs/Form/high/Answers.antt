@@ -1,6 +1,6 @@
 use Rattle.std.proofs.Common.{rules}
-use Rattle.affine.proofs.Results.{high_result}
+use Rattle.affine.proofs.Results.{high_above}
 use Rattle.affine.proofs.Form.high.Goals as goal
 
-pub returns : goal.returns
-returns c = high_result (search rules)
+pub returns-clause-above : goal.returns-clause-above
+returns-clause-above c = high_above c.args.self (search rules)

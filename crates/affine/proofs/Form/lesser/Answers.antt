@@ -1,37 +1,28 @@
 use Rattle.std.proofs.Common.{sym, ◌∙◌, ap₂, subst₂}
 use Rattle.std.specs.Int.{int_min}
-use Rattle.integer.proofs.Machine.{stored_is, kept}
 use Rattle.affine.specs.Forms.{span_of}
 use Rattle.affine.specs.Fits.{SpanFits}
 use Rattle.affine.proofs.Choosing.{lesser_first, lesser_second, lesser_neither}
-use Rattle.affine.proofs.Results.{lesser_result}
+use Rattle.affine.proofs.Results.{picked, lesser_result}
 use Rattle.affine.proofs.Form.lesser.Goals as goal
 
 pub span-requires : goal.span-requires
 span-requires c =
-    let ul = stored_is c.low.ensures.value c.requires.left.low.end in
-    let vl = stored_is c.low-else-ends_before-2.ensures.value c.requires.right.low.end in
-    let uh = stored_is c.high.ensures.value c.requires.left.high.end in
-    let vh = stored_is c.high-else-ends_before-2.ensures.value c.requires.right.high.end in
-    let lo = kept c.min.type_inv ∙ c.min.ensures.value ∙ ap₂ int_min ul vl in
-    let hi = kept c.min-else-ends_before-2.type_inv ∙ c.min-else-ends_before-2.ensures.value ∙ ap₂ int_min uh vh in
+    let lo = picked int_min c.min.type_inv c.min.ensures.value c.low.ensures.value c.requires.left.low.end c.low-else-ends_before-2.ensures.value c.requires.right.low.end in
+    let hi = picked int_min c.min-else-ends_before-2.type_inv c.min-else-ends_before-2.ensures.value c.high.ensures.value c.requires.left.high.end c.high-else-ends_before-2.ensures.value c.requires.right.high.end in
     subst₂ SpanFits (sym lo) (sym hi) c.requires.span
 
 pub returns-then-ends_before : goal.returns-then-ends_before
-returns-then-ends_before c = lesser_result (lesser_first c.args.self c.args.v (sym c.ends_before.ensures ∙ c.if-ends_before.true))
+returns-then-ends_before c = lesser_result c.args.self c.args.v (lesser_first c.args.self c.args.v (sym c.ends_before.ensures ∙ c.if-ends_before.true))
 
 pub returns-then-ends_before-2 : goal.returns-then-ends_before-2
 returns-then-ends_before-2 c =
-    lesser_result (lesser_second c.args.self c.args.v (sym c.ends_before.ensures ∙ c.if-ends_before.false)
+    lesser_result c.args.self c.args.v (lesser_second c.args.self c.args.v (sym c.ends_before.ensures ∙ c.if-ends_before.false)
     (sym c.ends_before-else-ends_before.ensures ∙ c.if-ends_before-2.true))
 
 pub returns-else-ends_before-2 : goal.returns-else-ends_before-2
 returns-else-ends_before-2 c =
-    let ul = stored_is c.low.ensures.value c.requires.left.low.end in
-    let vl = stored_is c.low-else-ends_before-2.ensures.value c.requires.right.low.end in
-    let uh = stored_is c.high.ensures.value c.requires.left.high.end in
-    let vh = stored_is c.high-else-ends_before-2.ensures.value c.requires.right.high.end in
-    let lo = kept c.min.type_inv ∙ c.min.ensures.value ∙ ap₂ int_min ul vl in
-    let hi = kept c.min-else-ends_before-2.type_inv ∙ c.min-else-ends_before-2.ensures.value ∙ ap₂ int_min uh vh in
-    lesser_result (c.span.ensures ∙ ap₂ span_of lo hi
+    let lo = picked int_min c.min.type_inv c.min.ensures.value c.low.ensures.value c.requires.left.low.end c.low-else-ends_before-2.ensures.value c.requires.right.low.end in
+    let hi = picked int_min c.min-else-ends_before-2.type_inv c.min-else-ends_before-2.ensures.value c.high.ensures.value c.requires.left.high.end c.high-else-ends_before-2.ensures.value c.requires.right.high.end in
+    lesser_result c.args.self c.args.v (c.span.ensures ∙ ap₂ span_of lo hi
     ∙ lesser_neither c.args.self c.args.v (sym c.ends_before.ensures ∙ c.if-ends_before.false) (sym c.ends_before-else-ends_before.ensures ∙ c.if-ends_before-2.false))

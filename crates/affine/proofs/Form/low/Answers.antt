@@ -1,6 +1,6 @@
 use Rattle.std.proofs.Common.{rules}
-use Rattle.affine.proofs.Results.{low_result}
+use Rattle.affine.proofs.Results.{low_below}
 use Rattle.affine.proofs.Form.low.Goals as goal
 
-pub returns : goal.returns
-returns c = low_result (search rules)
+pub returns-clause-below : goal.returns-clause-below
+returns-clause-below c = low_below c.args.self (search rules)

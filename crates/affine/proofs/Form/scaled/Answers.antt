@@ -1,6 +1,7 @@
 use Rattle.std.proofs.Common.{rules}
-use Rattle.affine.proofs.Results.{scaled_result}
+use Rattle.affine.proofs.Holding.{scaled_holds}
+use Rattle.affine.proofs.Results.{held}
 use Rattle.affine.proofs.Form.scaled.Goals as goal
 
-pub returns : goal.returns
-returns c = scaled_result c.args.k (search rules)
+pub returns-clause-holds : goal.returns-clause-holds
+returns-clause-holds c m r p q n d h = held (search rules) (scaled_holds m r p q c.args.k c.args.self n d h)

@@ -1,18 +1,11 @@
-use Rattle.std.proofs.Common.{ℤ, negsuc, ◌*ℤ◌, sym, ap, ◌∙◌, subst, ap₂}
+use Rattle.std.proofs.Common.{ℤ, negsuc, ◌*ℤ◌, ap, ◌∙◌, ap₂}
 use Rattle.integer.proofs.Machine.{within, is, is_numeral, is_stored, is_product}
 use Rattle.affine.specs.Forms.{sum_of, scaled_by, shifted_by}
-use Rattle.affine.specs.Fits.{Bounded}
 use Rattle.affine.proofs.Fitting.{scaled_fits, sum_fits}
 use Rattle.nodes.specs.Quadrics.{square_of}
 use Rattle.nodes.specs.Locations.{affine_axis}
-use Rattle.nodes.proofs.Bounds.{bounded_sum, bounded_scaled}
+use Rattle.nodes.proofs.Bounds.{sum_in, scaled_in}
 use Rattle.nodes.proofs.forms.axis.Goals as goal
-
-pub offset-d-requires : goal.offset-d-requires
-offset-d-requires c = (c.requires.0, within (is_stored (is c.requires.1.0) tt) tt)
-
-pub square-requires : goal.square-requires
-square-requires c = c.offset-d.ensures.bounded
 
 pub scaled-bent-requires : goal.scaled-bent-requires
 scaled-bent-requires c = scaled_fits (within {l = 16} (is_stored (is c.requires.1.1.0) tt) tt) c.square.ensures.bounded tt tt
@@ -24,9 +17,8 @@ scaled-straight-requires c =
 pub sum-requires : goal.sum-requires
 sum-requires c =
     sum_fits
-    (subst (Bounded 108086391056891904) (sym c.scaled-bent.ensures.value) (bounded_scaled (within {l = 16} (is_stored (is c.requires.1.1.0) tt) tt) c.square.ensures.bounded))
-    (subst (Bounded 562949953421312) (sym c.scaled-straight.ensures.value)
-    (bounded_scaled (within {l = 16777216} (is_stored (is_product (is_numeral 4096) (is_stored (is c.requires.1.1.1) tt)) tt) tt) c.offset-d.ensures.bounded))
+    (scaled_in (within {l = 16} (is_stored (is c.requires.1.1.0) tt) tt) c.square.ensures.bounded c.scaled-bent.ensures.value)
+    (scaled_in (within {l = 16777216} (is_stored (is_product (is_numeral 4096) (is_stored (is c.requires.1.1.1) tt)) tt) tt) c.offset-d.ensures.bounded c.scaled-straight.ensures.value)
     tt
 
 pub returns : goal.returns
@@ -41,7 +33,8 @@ returns c =
           ∙ ap₂ sum_of
           (c.scaled-bent.ensures.value ∙ ap₂ scaled_by s.same (c.square.ensures.value ∙ ap square_of d))
           (c.scaled-straight.ensures.value ∙ ap₂ scaled_by l.same d);
-      bounded = subst (Bounded 108649341010313216) (sym c.sum.ensures.value) (bounded_sum
-          (subst (Bounded 108086391056891904) (sym c.scaled-bent.ensures.value) (bounded_scaled (within {l = 16} s tt) c.square.ensures.bounded))
-          (subst (Bounded 562949953421312) (sym c.scaled-straight.ensures.value) (bounded_scaled (within {l = 16777216} l tt) c.offset-d.ensures.bounded)));
+      bounded = sum_in
+          (scaled_in (within {l = 16} s tt) c.square.ensures.bounded c.scaled-bent.ensures.value)
+          (scaled_in (within {l = 16777216} l tt) c.offset-d.ensures.bounded c.scaled-straight.ensures.value)
+          c.sum.ensures.value;
     }

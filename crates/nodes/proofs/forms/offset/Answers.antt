@@ -1,15 +1,9 @@
 use Rattle.std.proofs.Common.{ℤ, sym, ap, ◌∙◌, subst}
-use Rattle.integer.proofs.Machine.{within, is, is_stored, is_product}
+use Rattle.integer.proofs.Machine.{is, is_stored, is_product}
 use Rattle.affine.specs.Forms.{shifted_by}
 use Rattle.affine.specs.Fits.{Bounded}
-use Rattle.affine.proofs.Fitting.{shifted_fits}
 use Rattle.nodes.proofs.Bounds.{bounded_shifted, is_down}
 use Rattle.nodes.proofs.forms.offset.Goals as goal
-
-pub shifted-requires : goal.shifted-requires
-shifted-requires c =
-    let k = is_stored (is_product is_down (is_stored (is c.requires.1) tt)) tt in
-    shifted_fits (within {l = 16777216} k tt) c.requires.0 tt
 
 pub returns : goal.returns
 returns c =

@@ -1,5 +1,5 @@
 use Rattle.integer.proofs.Machine.{fits, within, is_stored}
-use Rattle.nodes.specs.WholeCode.{is_square, is_bent, is_straight, is_axis}
+use Rattle.nodes.proofs.WholeQuadric.{is_square, is_bent, is_straight, is_axis}
 use Rattle.nodes.proofs.whole.axis.Goals as goal
 
 pub overflow_mul-result : goal.overflow_mul-result

@@ -10,8 +10,8 @@ loop-call-preserved c =
     let calls = c.args.calls.now in
     let i = c.loop-call.call-index in
     let inv = c.loop-call.invariant in (
-      sheet_next calls i c.loop-call-test.true (data_of c.loop-call.sheet) _ inv.0 _ c.send-reply.ensures.after,
-      answers_next calls i c.loop-call-test.true (data_of c.loop-call.sheet) _ inv.0 _ _ c.send-reply.result inv.1 c.push_reserved.ensures.items c.send-reply.ensures.answer,
+      sheet_next calls i c.loop-call-test.true (data_of c.loop-call.sheet) _ inv.0 _ c.send.ensures.after,
+      answers_next calls i c.loop-call-test.true (data_of c.loop-call.sheet) _ inv.0 _ _ c.send.result inv.1 c.push_reserved.ensures.items c.send.ensures.answer,
       omega arith,
       omega arith,
     )

@@ -1,42 +1,22 @@
-use Rattle.std.proofs.Common.{sym, ◌∙◌, subst, ap₂}
-use Rattle.integer.proofs.Machine.{fits, within, is, is_numeral, is_stored, is_product}
+use Rattle.std.proofs.Common.{◌∙◌, ap₂}
+use Rattle.integer.proofs.Machine.{within, is, is_numeral, is_stored, is_product}
 use Rattle.affine.specs.Forms.{sum_of, shifted_by}
-use Rattle.affine.specs.Fits.{Bounded}
 use Rattle.affine.proofs.Fitting.{sum_fits, shifted_fits}
 use Rattle.nodes.specs.Locations.{affine_axis}
 use Rattle.nodes.specs.Numbers.{height_in}
-use Rattle.nodes.proofs.Bounds.{bounded_sum}
+use Rattle.nodes.proofs.Bounds.{sum_in}
 use Rattle.nodes.proofs.forms.AffineArithmetic.quadric.Goals as goal
-
-pub axis-x-requires : goal.axis-x-requires
-axis-x-requires c =
-    let k = c.requires.range in
-    (c.requires.bounded.x_in, (within (is_stored (is k.px_in) tt) tt, (within (is_stored (is k.sx_in) tt) tt, within (is_stored (is k.lx_in) tt) tt)))
-
-pub axis-y-requires : goal.axis-y-requires
-axis-y-requires c =
-    let k = c.requires.range in
-    (c.requires.bounded.y_in, (within (is_stored (is k.py_in) tt) tt, (within (is_stored (is k.sy_in) tt) tt, within (is_stored (is k.ly_in) tt) tt)))
-
-pub axis-z-requires : goal.axis-z-requires
-axis-z-requires c =
-    let k = c.requires.range in
-    (c.requires.bounded.z_in, (within (is_stored (is (height_in k.pz_from k.pz_to)) tt) tt, (within (is_stored (is k.sz_in) tt) tt, within (is_stored (is k.lz_in) tt) tt)))
 
 pub sum-requires : goal.sum-requires
 sum-requires c = sum_fits c.axis-x.ensures.bounded c.axis-y.ensures.bounded tt
 
 pub sum-requires-2 : goal.sum-requires-2
-sum-requires-2 c = sum_fits (subst (Bounded 217298682020626432) (sym c.sum.ensures.value) (bounded_sum c.axis-x.ensures.bounded c.axis-y.ensures.bounded)) c.axis-z.ensures.bounded tt
-
-pub overflow_mul-node : goal.overflow_mul-node
-overflow_mul-node c = fits (is_product (is_numeral 16777216) (is_stored (is c.requires.range.k_in) tt)) tt
+sum-requires-2 c = sum_fits (sum_in c.axis-x.ensures.bounded c.axis-y.ensures.bounded c.sum.ensures.value) c.axis-z.ensures.bounded tt
 
 pub shifted-requires : goal.shifted-requires
 shifted-requires c =
     shifted_fits (within {l = 18014398509481984} (is_stored (is_product (is_numeral 16777216) (is_stored (is c.requires.range.k_in) tt)) tt) tt)
-    (subst (Bounded 325948023030939648) (sym c.sum-2.ensures.value)
-    (bounded_sum (subst (Bounded 217298682020626432) (sym c.sum.ensures.value) (bounded_sum c.axis-x.ensures.bounded c.axis-y.ensures.bounded)) c.axis-z.ensures.bounded))
+    (sum_in (sum_in c.axis-x.ensures.bounded c.axis-y.ensures.bounded c.sum.ensures.value) c.axis-z.ensures.bounded c.sum-2.ensures.value)
     tt
 
 pub returns : goal.returns

@@ -1,17 +1,12 @@
-use Rattle.std.proofs.Common.{◌&&◌, ap₂, w64, SFits, rules}
-use Rattle.std.proofs.lemmas.Int.{to_z-of_z}
+use Rattle.std.proofs.Common.{rules, ◌≡◌, negsuc, pos, ap₂}
+use Rattle.std.proofs.Math.Bool.{◌&&◌}
+use Rattle.nodes.specs.Validation.{between, all_between}
 use Rattle.nodes.proofs.node.Node.quadric_in_range.Goals as goal
 
 pub returns : goal.returns
 returns c =
-    let sx-fits : SFits w64 c.args.self.now.sx = search rules in
-    let sy-fits : SFits w64 c.args.self.now.sy = search rules in
-    let sz-fits : SFits w64 c.args.self.now.sz = search rules in
-    let lx-fits : SFits w64 c.args.self.now.lx = search rules in
-    let ly-fits : SFits w64 c.args.self.now.ly = search rules in
-    let lz-fits : SFits w64 c.args.self.now.lz = search rules in
-    let k-fits : SFits w64 c.args.self.now.k = search rules in
-    let s = simp to_z-of_z at c.between_each.ensures in
-    let l = simp to_z-of_z at c.between_each-2.ensures in
-    let k = simp to_z-of_z at c.between.ensures in
+    let node = c.args.self.now in
+    let s : c.all_between-scales.result ≡ all_between (negsuc 15) (pos 16) node.sx node.sy node.sz = search rules in
+    let l : c.all_between-slopes.result ≡ all_between (negsuc 4095) (pos 4096) node.lx node.ly node.lz = search rules in
+    let k : c.contains-level.result ≡ between (negsuc 1073741823) node.k (pos 1073741824) = search rules in
     ap₂ ◌&&◌ (ap₂ ◌&&◌ (ap₂ ◌&&◌ c.centre_on_map.ensures s) l) k

@@ -13,8 +13,8 @@ use Rattle.sheet.specs.Answers.{taken}
 use Rattle.sheet.proofs.Sent.{some_number, done_refused, after_refused, done_taken, after_taken, with_nodes, not_full}
 use Rattle.sheet.proofs.sheet.Sheet.add.Goals as goal
 
-pub validate-requires : goal.validate-requires
-validate-requires c =
+pub new-requires : goal.new-requires
+new-requires c =
     let sheet = c.args.self.now in
     record {
       few = subst (λ (l : List Node). length l ≤ 64) (sym c.deref.ensures.value) sheet.few;
@@ -28,7 +28,7 @@ returns-in_err-validate c =
     let count = sheet.nodes.ok.0 in
     let refusal = c.in_err-validate.field-0.0 in
     let fits : number_of refusal ≡ node_refusal (vec_items sheet.nodes) c.args.node =
-    c.in_err-validate.ensures.value ∙ ap (λ (l : List Node). node_refusal l c.args.node) c.deref.ensures.value in
+    c.in_err-validate.ensures.value ∙ ap (λ (l : List Node). node_refusal l c.args.node) (c.new.ensures ∙ c.deref.ensures.value) in
     let first = fits ∙ not_full (length (vec_items sheet.nodes)) _ (omega arith) in
     rw (p.1, p.2) (record {
       answer = done_refused (data_of sheet) (Add c.args.node) (number_of refusal) (some_number refusal) first;
@@ -40,7 +40,7 @@ invariant_of-self c =
     let sheet = c.args.self.now in
     let count = sheet.nodes.ok.0 in
     let one_more : length (vec_items c.push_reserved.new.self) ≡ length (vec_items sheet.nodes) + 1 = ap length c.push_reserved.ensures.items ∙ length-append _ _ in
-    let free = ap (λ (l : List Node). node_refusal l c.args.node) (sym c.deref.ensures.value) ∙ c.in_ok-validate.ensures.value.0 in
+    let free = ap (λ (l : List Node). node_refusal l c.args.node) (sym (c.new.ensures ∙ c.deref.ensures.value)) ∙ c.in_ok-validate.ensures.value.0 in
     record {
       few = omega arith;
       room = omega (arith, sheet.room, c.push_reserved.ensures.capacity);
@@ -54,7 +54,7 @@ returns c =
     let sheet = c.args.self.now in
     let count = sheet.nodes.ok.0 in
     let free : 0 ≡ node_refusal (vec_items sheet.nodes) c.args.node =
-    sym (ap (λ (l : List Node). node_refusal l c.args.node) (sym c.deref.ensures.value) ∙ c.in_ok-validate.ensures.value.0) in
+    sym (ap (λ (l : List Node). node_refusal l c.args.node) (sym (c.new.ensures ∙ c.deref.ensures.value)) ∙ c.in_ok-validate.ensures.value.0) in
     let none = sym (free ∙ not_full (length (vec_items sheet.nodes)) _ (omega arith)) in
     record {
       answer = ap taken (c.len-at.ensures ∙ count) ∙ done_taken (data_of sheet) (Add c.args.node) none;

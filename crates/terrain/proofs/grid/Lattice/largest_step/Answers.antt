@@ -5,6 +5,4 @@ use Rattle.terrain.proofs.Lattices.{largest_is}
 use Rattle.terrain.proofs.grid.Lattice.largest_step.Goals as goal
 
 pub returns : goal.returns
-returns c =
-    let lattice = c.args.self.now in
-    record { value = (largest_is (vec_items lattice.heights) lattice.fit lattice.steps).same; between = steep_between (heights_of (vec_items lattice.heights)) }
+returns c = let lattice = c.args.self.now in record { value = (largest_is lattice).same; between = steep_between (heights_of (vec_items lattice.heights.row)) }

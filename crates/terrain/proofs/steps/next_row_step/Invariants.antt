@@ -1,7 +1,0 @@
-use Rattle.std.proofs.Common.{◌≡◌}
-use Rattle.lattice.specs.Terrain.{most}
-use Rattle.terrain.specs.Moves.{step_to_north}
-use Rattle.terrain.proofs.steps.next_row_step.Given as goal
-
-abbrev pub invariant-loop-i : goal.invariant-loop-i
-invariant-loop-i l = l.top ≡ most l.i (step_to_north l.heights l.j)
