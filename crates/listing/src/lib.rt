@@ -8,5 +8,6 @@ mod printed;
 mod rows;
 mod worked;
 
+pub use files::Output;
 pub use printed::listing;
 pub use worked::worked_halves;

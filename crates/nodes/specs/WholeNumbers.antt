@@ -10,7 +10,7 @@ use Rattle.affine.specs.declared.Form.{Form}
 use Rattle.nodes.specs.declared.node.Node.{Node}
 use Rattle.nodes.specs.Tables.{result_of}
 use Rattle.nodes.specs.Quadrics.{quadric_value}
-use Rattle.nodes.specs.Meanings.{Value, values}
+use Rattle.nodes.specs.Meanings.{Value, values, value_of}
 use Rattle.nodes.specs.Formed.{WellFormed}
 use Rattle.nodes.specs.Locations.{algebra, whole, whole_axes, whole_quadric, whole_operations, whole_sum, whole_lesser, whole_greater, whole_opposite, WholeFits, WholeHolds}
 use Rattle.nodes.specs.TablesLemmas.{Related, related_results}
@@ -44,8 +44,12 @@ whole_related leg step = record {
 }
 
 module _ (nodes : List Node) (formed : WellFormed nodes) (leg : Leg) (step : HalfStep) where
+  -- the whole numbers of a well-formed list at a half-step are the values of its nodes there
+  pub whole_results : (i : ℕ) → i < length nodes → WholeHolds step (result_of (algebra whole_operations (whole_axes leg step)) nodes i) (value_of leg nodes i)
+  whole_results = related_results nodes formed (algebra whole_operations (whole_axes leg step)) (values leg) (λ (u : Form) (F : Value). WholeHolds step u F) (whole_related leg step)
+
   pub whole_small : (i : ℕ) → i < length nodes → WholeFits (result_of (algebra whole_operations (whole_axes leg step)) nodes i)
   whole_small i i< =
       let law = every_node_is_lawful nodes formed leg i i< in
-      subst WholeFits (sym (related_results nodes formed (algebra whole_operations (whole_axes leg step)) (values leg) (λ (u : Form) (F : Value). WholeHolds step u F) (whole_related leg step) i i<))
+      subst WholeFits (sym (whole_results i i<))
       (within_wider (within_same (law.in_reach (pos step.at) (pos 1) (step_on_leg step.at step.within)) refl (ring 1 (λ g. g :* (con (pos 1) :* con (pos 1)) := g) refl _)) law.reach_in_limit)

@@ -1,11 +1,17 @@
 // Lists of nodes, validated row by row, and what their nodes are.
 #![tactic(auto)]
 
+ghost use Rattle.std.specs.Prelude.{◌≡◌, ◌≤◌, length, IfOk};
+ghost use Rattle.nodes.specs.Formed.{WellFormed};
+
 use nodes::{Node, Nodes};
 use refusal::Refusal;
 
 // Validates each node after those before it.
-fn build(nodes: &[Node]) -> Result<Nodes<'_>, Refusal> {
+#[tactic(auto, using(nodes::proofs::Growing::empty_well_formed))]
+fn build(nodes: &[Node]) -> Result<Nodes<'_>, Refusal>
+    ensures { IfOk result (λ built. (built.all.now ≡ nodes.now) × (length nodes.now ≤ 64) × WellFormed nodes.now) }
+{
     if nodes.len() > 64 {
         return Err(Refusal::SheetFull);
     }

@@ -9,7 +9,8 @@ ghost use Rattle.table.specs.Left.{left_of};
 ghost use Rattle.files.specs.Outputs.{Written, Writes};
 ghost use Rattle.report.specs.Report.{row_line, heading, table_text, terrain_text, output_of};
 
-use files::{File, Files, LoadError, Output, TableRows, push_line};
+pub use files::Output;
+use files::{File, Files, LoadError, TableRows, push_line};
 use std::alloc::{AllocError, Global};
 use table::table::Table;
 

@@ -1,15 +1,11 @@
 -- A field says a number just where it is the number's decimal writing.
-use Rattle.std.proofs.Common.{◌≡◌, ℕ, zero, suc, ◌+◌, ◌-◌, ◌*◌, ◌^◌, ◌<◌, ◌≤◌, Bool, true, false, ◌&&◌, ◌||◌, eqb, ltb, leb, ◌⊎◌, List, [], ◌∷◌, length, get_or, ℤ, pos, negsuc, nat_abs, Some, None, Ok, Err, decimal, Option, Result, sym, refl, ap, ◌∙◌, subst, inl, inr, ⊎_elim, arith, rules, ltb-false, ne_eqb, le-leb, le-ltb}
+use Rattle.std.proofs.Common.{◌≡◌, ℕ, zero, suc, ◌+◌, ◌-◌, ◌*◌, ◌^◌, ◌<◌, ◌≤◌, Bool, true, false, ◌&&◌, ◌||◌, eqb, ltb, leb, ◌⊎◌, List, [], ◌∷◌, length, get_or, ℤ, pos, negsuc, nat_abs, Some, None, decimal, Option, sym, refl, ap, ◌∙◌, subst, inl, inr, ⊎_elim, arith, rules, ltb-false, ne_eqb, le-leb, le-ltb}
+use borrow.Author.Tests.{lt-leb}
 use Rattle.std.specs.Fmt.{signed_decimal}
-use Rattle.std.specs.Option.{SomeIff}
-use Rattle.std.specs.Result.{result_ok, MatchResult}
-use Rattle.std.specs.Str.{IsUtf8}
-use Rattle.std.specs.Str.Parse.{AllDigits, IsNumeral, digits_value}
-use Rattle.std.proofs.lemmas.Str.{IsUtf8-from_ascii}
-use Rattle.std.proofs.lemmas.Fmt.{decimal_nonempty, length-decimal-le, first_decimal, digits_decimal, digits_value-decimal, decimal-digits_value, decimal_digit, decimal_is_IsNumeral, IsAscii-from_digits}
-use Rattle.std.proofs.lemmas.Str.Parse.{IsNumeralModel, numerals_by_fold, numerals_by_value, tells_digits}
-use Rattle.std.proofs.lemmas.Bool.{and_parts, or_parts, cond-true, cond-false, and_left, and_right, or_from, cases_Bool, cases_eq, and_cases, eqb-true, eqb-false, leb-true}
-use Rattle.table.specs.Number.{is_digit_byte, read_on, capped, magnitude_of, minus, plain, number_of, Says}
+use Rattle.std.proofs.lemmas.Fmt.{decimal_nonempty, length-decimal-le, first_decimal, digits_decimal, digits_value-decimal, decimal-digits_value, decimal_digit}
+use Rattle.std.proofs.lemmas.Str.Parse.{IsNumeralModel, numerals_by_fold}
+use Rattle.std.proofs.lemmas.Bool.{and_parts, or_parts, cond-true, cond-false, and_left, and_right, or_from, cases_Bool, cases_eq, and_cases, eqb-true, eqb-false, leb-true, leb-false}
+use Rattle.table.specs.Number.{is_digit_byte, read_on, capped, followed, magnitude_of, minus, plain, number_of, Says}
 use Rattle.table.proofs.Variants.{some_none, some_same}
 
 gate : (ds : List ℕ) → (length ds ≡ 0 → ⊥) → length ds ≤ 10 → (((get_or ds 0 0 ≡ 48) × (length ds ≤ 1)) ⊎ (get_or ds 0 0 ≡ 48 → ⊥)) → magnitude_of ds ≡ capped (read_on 0 ds)
@@ -86,32 +82,26 @@ writes_magnitude n h =
     ∙ ap capped (digits_read 0 (decimal n) (digits_decimal own n small) ∙ ap (λ (m : ℕ). Some m) (digits_value-decimal own n small))
     ∙ cond-true (leb n 2147483647) _ _ (le-leb n 2147483647 h)
 
--- what is read of digits that begin with 1 to 9
-bare : IsNumeralModel (AllDigits 10) (digits_value 10)
-bare = numerals_by_value (AllDigits 10) tells_digits
+-- past the largest magnitude no digit leads back
+too_large : (a : ℕ) (ds : List ℕ) → 2147483647 < a → capped (read_on a ds) ≡ None
+too_large a [] h = cond-false (leb a 2147483647) _ _ (lt-leb _ _ h)
+too_large a (c ∷ cs) h =
+    ⊎_elim (λ t. ap capped (cond-true (is_digit_byte c) _ _ t) ∙ too_large (a * 10 + (c - 48)) cs (omega arith))
+    (λ f. ap capped (cond-false (is_digit_byte c) _ _ f)) (cases_Bool (is_digit_byte c))
 
-no_ok : {A E U : Type 0} (S : A → Type 0) (V : E → Type 0) (r : Result A E) → result_ok r ≡ None → MatchResult r S (λ e. (U → ⊥) × V e) → U → ⊥
-no_ok S V (Ok a) e told = absurd (some_none e)
-no_ok S V (Err x) e told = told.0
+-- a digit that is not taken
+pub ends_there : (a d : ℕ) (ds : List ℕ) → None ≡ followed a d → capped (read_on a (d ∷ ds)) ≡ None
+ends_there a d ds e =
+    let n = a * 10 + (d - 48) in
+    ⊎_elim (λ t. ap capped (cond-true (is_digit_byte d) _ _ t) ∙ ⊎_elim
+    (λ s. absurd (some_none (sym (e ∙ cond-true (is_digit_byte d) _ _ t ∙ cond-true (leb n 2147483647) _ _ s))))
+    (λ b. too_large n ds (leb-false n 2147483647 b)) (cases_Bool (leb n 2147483647)))
+    (λ f. ap capped (cond-false (is_digit_byte d) _ _ f)) (cases_Bool (is_digit_byte d))
 
-pub no_text : {A E : Type 0} (S : A → Type 0) (V : E → Type 0) (ds : List ℕ) (r : Result A E) → result_ok r ≡ None → MatchResult r S (λ e. (IsUtf8 ds → ⊥) × V e) → IsNumeral 10 ds → ⊥
-no_text S V ds r e told n = no_ok {U = IsUtf8 ds} S V r e told (IsUtf8-from_ascii ds (IsAscii-from_digits ds n.1))
-
-magnitude_by : (ds : List ℕ) (o p : Option ℕ) → magnitude_of ds ≡ p → ((m : ℕ) → o ≡ Some m → (ds ≡ decimal m) × (m ≤ 2147483647)) → ((m : ℕ) → o ≡ None → m ≤ 2147483647 → ds ≡ decimal m → ⊥) → o ≡ p
-magnitude_by ds None None e some none = refl
-magnitude_by ds None (Some m) e some none = let w = magnitude_writes ds m e in absurd (none m refl w.1 w.0)
-magnitude_by ds (Some n) p e some none = let w = some n refl in sym (writes_magnitude n w.1) ∙ ap magnitude_of (sym w.0) ∙ e
-
-pub read_is : (ds : List ℕ) (r : Option ℕ) → 48 < get_or ds 0 0 → SomeIff r (IsNumeral 10 ds × (digits_value 10 ds ≤ 2147483647)) (digits_value 10 ds) → r ≡ magnitude_of ds
-read_is ds None h told =
-    magnitude_by ds None (magnitude_of ds) refl (λ m e. absurd (some_none (sym e)))
-    (λ m e le w. let is = decimal_is_IsNumeral m (omega arith) in told (subst (IsNumeral 10) (sym w) is.0, let v = ap (digits_value 10) w ∙ is.1 in let k : digits_value 10 ds ≤ 2147483647 = omega arith in k))
-read_is ds (Some n) h told =
-    let v = told.1 in
-    let le = told.0.1 in
-    magnitude_by ds (Some n) (magnitude_of ds) refl
-    (λ m e. let s = some_same e in (sym (decimal-digits_value bare ds told.0.0.1 told.0.0.0 (λ z. absurd (omega arith)) (omega arith)) ∙ ap decimal (sym v ∙ s), let k : m ≤ 2147483647 = omega arith in k))
-    (λ m e. absurd (some_none e))
+-- at most ten digits that begin with 1 to 9
+pub read_is : (ds : List ℕ) → 48 < get_or ds 0 0 → length ds ≤ 10 → capped (read_on 0 ds) ≡ magnitude_of ds
+read_is [] h l = absurd (let k : ⊥ = omega arith in k)
+read_is (c ∷ cs) h l = sym (gate (c ∷ cs) (λ e. absurd (let k : ⊥ = omega arith in k)) l (inr (λ e. let k : ⊥ = omega arith in k)))
 
 minus_some : (o : Option ℕ) (z : ℤ) → minus o ≡ Some z → (k : ℕ) × (o ≡ Some (suc k)) × (negsuc k ≡ z)
 minus_some None z e = absurd (some_none (sym e))

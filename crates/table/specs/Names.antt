@@ -1,5 +1,5 @@
 -- The three tables' names, and where a name stands.
-use Rattle.std.specs.Prelude.{ℕ, ◌*◌, ◌/◌, ◌%◌, ◌^◌, Bool, List, [], ◌∷◌, map, codes, Option, position, option_and_then, unwrap_or, slice_get}
+use Rattle.std.specs.Prelude.{ℕ, ◌+◌, ◌*◌, ◌/◌, ◌%◌, ◌^◌, Bool, List, [], ◌∷◌, map, codes, Option, position, option_and_then, unwrap_or, slice_get}
 use Rattle.std.specs.Borrow.{Bor}
 use Rattle.std.specs.List.{position_or_len, list_any, range_with_len}
 use Rattle.std.specs.Str.{bytes_eq}
@@ -34,6 +34,11 @@ place_at ns heads column = unwrap_or (option_and_then (position_of heads) (slice
 -- the places of the thirteen columns of a row
 abbrev pub places_of : List (List ℕ) → List (List ℕ) → List ℕ
 places_of ns heads = map (place_at ns heads) (range_with_len 0 13)
+
+-- places packed into one number: four bits for each, the first column's lowest
+abbrev pub packed : List ℕ → ℕ
+packed [] = 0
+packed (p ∷ ps) = packed ps * 16 + p
 
 -- the place of a column in a packed order: four bits for each, the first column's lowest
 abbrev pub place_of : ℕ → ℕ → ℕ

@@ -1,16 +1,37 @@
-ghost use Rattle.std.specs.Prelude.{◌≡◌, ◌<◌, ◌≤◌, IfSome, slice_index};
-ghost use Rattle.table.specs.Number.{magnitude_of, number_of, Says};
+ghost use Rattle.std.specs.Prelude.{◌≡◌, ◌<◌, ◌≤◌, length, IfSome, slice_index};
+ghost use Rattle.table.specs.Number.{followed, magnitude_of, number_of, Says};
 
 // The largest magnitude.
 const MOST: u32 = 2147483647;
 
-// The number that digits write of which the first is 1 to 9, at most MOST.
+// A number with one digit more behind it, at most MOST.
+fn followed(number: u32, digit: u8) -> Option<u32>
+    ensures { result ≡ followed number digit }
+{
+    match digit {
+        b'0'..=b'9' => {
+            let longer = 10 * u64::from(number) + u64::from(digit - b'0');
+            if longer <= u64::from(MOST) {
+                Some(longer as u32)
+            } else {
+                None
+            }
+        }
+        _ => None,
+    }
+}
+
+// The number that at most ten digits write of which the first is 1 to 9, at most MOST.
 fn parsed(digits: &[u8]) -> Option<u32>
-    requires { 48 < slice_index digits.now 0 }
+    requires first { 48 < slice_index digits.now 0 }
+    requires few { length digits.now ≤ 10 }
     ensures { result ≡ magnitude_of digits.now }
 {
-    let number = str::from_utf8(digits).ok()?.parse().ok()?;
-    (number <= MOST).then_some(number)
+    let mut number = 0;
+    for digit in digits {
+        number = followed(number, *digit)?;
+    }
+    Some(number)
 }
 
 // 1 to 10 digits with no leading zero but 0 itself, at most MOST.
@@ -19,7 +40,7 @@ fn magnitude(digits: &[u8]) -> Option<u32>
     ensures small { IfSome result (λ n. n ≤ 2147483647) }
 {
     match digits {
-        [b'1'..=b'9', ..] => parsed(digits),
+        [b'1'..=b'9', ..] if digits.len() <= 10 => parsed(digits),
         [b'0'] => Some(0),
         _ => None,
     }

@@ -2,7 +2,7 @@ ghost use Rattle.std.specs.Prelude.{◌≡◌, ℕ, ◌+◌, ◌<◌, ◌≤◌,
 ghost use Rattle.refusal.specs.declared.Refusal.TheVariants.{TextStart};
 ghost use Rattle.refusal.specs.Numbers.{fault};
 ghost use Rattle.table.specs.Text.{feeds};
-ghost use Rattle.table.specs.Names.{place_of, unpacked};
+ghost use Rattle.table.specs.Names.{packed, place_of, unpacked};
 ghost use Rattle.table.specs.Reading.{opened_text, reading, row_of, Complete};
 ghost use Rattle.table.specs.Rearranged.{Rearranged};
 
@@ -24,7 +24,8 @@ impl Order {
     // The order in which the columns have these places.
     fn pack(places: [usize; 13]) -> Order
         requires { All (λ place. place < 16) places }
-        ensures { unpacked result.packed ≡ places }
+        ensures number { result.packed ≡ packed places }
+        ensures places { unpacked result.packed ≡ places }
     {
         let packed = places
             .iter()

@@ -10,9 +10,14 @@ length_of_chunks : (n : ℕ) (bytes : List ℕ) → length (map height_of (first
 length_of_chunks zero bytes = refl
 length_of_chunks (suc n) bytes = ap suc (length_of_chunks n (drop 2 bytes))
 
+tests : (bytes : List ℕ) → file_refusal bytes ≡ 0 → (eqb (length bytes) 33282 ≡ true) × (list_all in_range (file_heights bytes) ≡ true)
+tests bytes fit = both_pass (eqb (length bytes) 33282) (list_all in_range (file_heights bytes)) fit
+
+pub file_length : (bytes : List ℕ) → file_refusal bytes ≡ 0 → length bytes ≡ 33282
+file_length bytes fit = eqb-true (length bytes) 33282 (tests bytes fit).0
+
 pub file_row_fits : (bytes : List ℕ) → file_refusal bytes ≡ 0 → row_refusal (file_heights bytes) ≡ 0
 file_row_fits bytes fit =
-    let tests = both_pass (eqb (length bytes) 33282) (list_all in_range (file_heights bytes)) fit in
-    let long : length (file_heights bytes) ≡ 16641 = length_of_chunks (length bytes / 2) bytes ∙ ap (λ (n : ℕ). n / 2) (eqb-true (length bytes) 33282 tests.0) in
+    let long : length (file_heights bytes) ≡ 16641 = length_of_chunks (length bytes / 2) bytes ∙ ap (λ (n : ℕ). n / 2) (file_length bytes fit) in
     ap (λ (t : Bool). refusal_by t (list_all in_range (file_heights bytes))) (eq-eqb (length (file_heights bytes)) 16641 long)
-    ∙ ap (λ (t : Bool). refusal_by true t) tests.1
+    ∙ ap (λ (t : Bool). refusal_by true t) (tests bytes fit).1

@@ -5,3 +5,4 @@ pub mod Sizes
 pub mod Grounds
 pub mod Files
 pub mod Lattices
+pub mod Folds

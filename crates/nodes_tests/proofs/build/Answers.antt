@@ -1,11 +1,7 @@
 use Rattle.std.proofs.Common.{[], ◌∷◌, ◌++◌, List, get_or, take, sym, ap, ◌∙◌, subst, add-one, take_all, take-suc}
 use Rattle.nodes.specs.declared.node.Node.{Node}
 use Rattle.nodes.specs.Formed.{WellFormed, no_node}
-use Rattle.nodes.proofs.Growing.{empty_well_formed}
 use Rattle.nodes_tests.proofs.build.Goals as goal
-
-pub loop-i-init : goal.loop-i-init
-loop-i-init c = empty_well_formed
 
 pub loop-i-preserved : goal.loop-i-preserved
 loop-i-preserved c =

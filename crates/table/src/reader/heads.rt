@@ -3,7 +3,7 @@ ghost use Rattle.std.specs.Prelude.{◌≡◌, ℕ, ◌+◌, ◌^◌, ◌<◌, m
 ghost use Rattle.std.specs.List.{enumerate_from};
 ghost use Rattle.refusal.specs.declared.Refusal.TheVariants.{ColumnName};
 ghost use Rattle.table.specs.Text.{fields, first_line};
-ghost use Rattle.table.specs.Names.{column_names, held, known, place_at, places_of, unpacked};
+ghost use Rattle.table.specs.Names.{column_names, held, known, packed, place_at, places_of, unpacked};
 ghost use Rattle.table.specs.Reading.{opened_text, checked, good_name, heads_of, standing, HandsOut, reading, Named};
 ghost use Rattle.table.specs.Left.{left_of};
 
@@ -66,7 +66,7 @@ impl<'a> Opened<'a> {
 
     // The names line, if it is accepted; refuses 2 to 4, and leaves this reader where it was.
     pub fn names(&self) -> Result<Names<'a>, Fault>
-        ensures { MatchResult result (λ n. (n.text.now ≡ self.now.text.now) × (n.table ≡ self.now.table) × Named self.now.table self.now.text.now (unpacked n.order.packed)) (λ f. heads_of (column_names self.now.table) self.now.text.now ≡ Err f) }
+        ensures { MatchResult result (λ n. (n.text.now ≡ self.now.text.now) × (n.table ≡ self.now.table) × Named self.now.table self.now.text.now (unpacked n.order.packed) × (n.order.packed ≡ packed (unpacked n.order.packed))) (λ f. heads_of (column_names self.now.table) self.now.text.now ≡ Err f) }
     {
         let names = self.table.names();
         let line = self.line()?;

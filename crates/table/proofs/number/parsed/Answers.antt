@@ -1,12 +1,15 @@
-use Rattle.std.proofs.Common.{sym, ◌∙◌, rules}
-use Rattle.table.proofs.Writings.{no_text, read_is}
+use Rattle.std.proofs.Common.{◌≡◌, ◌+◌, None, drop, get_or, sym, ◌∙◌, rules}
+use Rattle.std.proofs.lemmas.List.{at_drop_more}
+use Rattle.table.specs.Number.{read_on, capped, followed}
+use Rattle.table.proofs.Writings.{ends_there, read_is}
 use Rattle.table.proofs.number.parsed.Goals as goal
 
-pub returns-in_err-ok : goal.returns-in_err-ok
-returns-in_err-ok c = rw c.from_residual.ensures (read_is c.args.digits.now _ c.requires (λ n. no_text _ _ c.args.digits.now c.from_utf8.result (sym c.ok.ensures.value ∙ c.in_err-ok.was) c.from_utf8.ensures.cases n.0))
-
 pub returns-in_err-number : goal.returns-in_err-number
-returns-in_err-number c = read_is c.args.digits.now _ c.requires (search rules)
-
-pub returns : goal.returns
-returns c = read_is c.args.digits.now _ c.requires (search rules)
+returns-in_err-number c =
+    let ds = c.args.digits.now in
+    let i = c.loop-digit.digit-index in
+    let a = c.loop-digit.number in
+    let none : None ≡ followed a (get_or ds i 0) = search rules in
+    let stop : capped (read_on a (drop i ds)) ≡ None = at_drop_more (λ l. capped (read_on a l)) ds i 0 c.loop-digit-test.true ∙ ends_there a (get_or ds i 0) (drop (i + 1) ds) none in
+    let whole = sym c.loop-digit.invariant.0 ∙ stop in
+    c.from_residual.ensures ∙ sym whole ∙ read_is ds c.requires.first c.requires.few

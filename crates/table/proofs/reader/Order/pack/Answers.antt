@@ -1,9 +1,13 @@
-use Rattle.std.proofs.Common.{◌≡◌, fold, reverse, rules, ap, ◌∙◌}
+use Rattle.std.proofs.Common.{◌≡◌, fold, length, reverse, arith, rules, ap, ◌∙◌}
 use Rattle.table.specs.Names.{unpacked}
-use Rattle.table.proofs.Packing.{packed_on, unpacks}
+use Rattle.table.proofs.Packing.{packed_on, folded, unpacks}
 use Rattle.table.proofs.reader.Order.pack.Goals as goal
 
 pub returns : goal.returns
 returns c =
     let e : c.fold-packed.result ≡ fold packed_on 0 (reverse c.args.places) = search rules in
-    ap unpacked e ∙ unpacks c.args.places (search rules) c.requires
+    let l : length c.args.places ≡ 13 = search rules in
+    record {
+      number = e ∙ folded c.args.places (omega arith) c.requires;
+      places = ap unpacked e ∙ unpacks c.args.places l c.requires;
+    }
